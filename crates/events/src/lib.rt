@@ -1,0 +1,4 @@
+// The events of a sheet and the numbers that stand for their kinds and fields.
+pub mod event;
+pub mod field;
+pub mod numbered;

@@ -1,0 +1,5 @@
+pub mod Layouts
+pub mod Numbers
+pub mod Openings
+pub mod Sheets
+pub mod Stops
