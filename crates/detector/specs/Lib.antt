@@ -1,5 +1,1 @@
 pub mod Meaning
-pub mod Totals
-pub mod AxleCounters
-pub mod Tracks
-pub mod TrackRows

@@ -2,8 +2,8 @@
 use mathlib.Core.Bool.{Bool, true, false, cond}
 use Prim.Native.Nat.{ℕ, _+_, _-_}
 use lib.Dec.{leb, eqb}
-use Rattle.detector.specs.declared.reading.Reading.{Reading}
-use Rattle.detector.specs.declared.reading.Reading.the-variants.{Clear, Occupied, Failed}
+use Rattle.detector.specs.declared.Reading.{Reading}
+use Rattle.detector.specs.declared.Reading.the-variants.{Clear, Occupied, Failed}
 
 -- the axles in the section, and whether the count has failed
 pub record Meaning : Type 0 where

@@ -1,18 +1,20 @@
-// An occupancy detector behind one trait, and two kinds of it that keep their count in different ways.
-// Whatever the kind, its calls are known by what they make of its meaning.
+// What an occupancy detector is. Whatever the kind, its calls are known by what they make of its
+// meaning; each kind is a crate of its own.
 ghost use mathlib.Core.Path.{_≡_};
 ghost use Prim.Native.Nat.{_≤_};
 ghost use Rattle.detector.specs.Meaning.{Meaning, limit, fresh, reading-of};
 ghost use Rattle.detector.specs.Meaning.{counted-in, counted-out, failing, restored, rolled};
 
-pub mod axle_counter;
-pub mod reading;
-pub mod track_row;
-
-use reading::Reading;
-
 // The most axles that a detector counts.
-const LIMIT: u16 = 1000;
+pub const LIMIT: u16 = 1000;
+
+// What a detector shows.
+#[derive(Clone, Copy)]
+pub enum Reading {
+    Clear,
+    Occupied,
+    Failed,
+}
 
 // No call refuses: what cannot be counted leaves a detector that has failed.
 pub trait Detector {

@@ -258,6 +258,7 @@ section-at n (field f k) s p =
     then-same (field-at f s p) _ _ (λ x q. section-at n (k x) s q) ∙ sym (then-then (field-at f s p) (λ x q. layout-at (k x) s q) (λ e q. Ok (at-section n e, q)))
 
 event-is : (s : List ℕ) (p : ℕ) → layout-at event-layout s p ≡ event-at s p
+unfolding field-at
 event-is s p =
     then-same (field-at kinds s p) _ _
     (λ k q. then-then (number-at s q) _ _ ∙ then-same (number-at s q) _ _ (λ n r. section-at n (fields-of k) s r))

@@ -144,6 +144,7 @@ module _ {T : Type 0} (numbers : T → List ℕ) (good : T → Type 0) where
 -- What stands at a layout is answered.
 
 field-reads : {A : Type 0} (f : Field A) (s : List ℕ) (p q n : ℕ) (a : A) → Means f n a → Stands s p q (written-number n) → field-at f s p ≡ Ok (a, q)
+unfolding field-at
 field-reads f s p q n a m t = rw (number-reads s p q n (m .fits) t, m .value)
 
 pub layout-reads :
@@ -160,6 +161,7 @@ layout-reads (field f k) s p q (n ∷ ns) x m t =
 pub wants-fault :
     {T : Type 0} (l : Layout T) (s : List ℕ) (p q : ℕ) (ns : List ℕ) (g : ReadFault)
     → Wants l ns → Stands s p q (joined written-number ns) → number-at s q ≡ Err g → layout-at l s p ≡ Err g
+unfolding field-at
 wants-fault (done y) s p q ns g w t e = absurd w
 wants-fault (field f k) s p q [] g w t e = let same : p ≡ q = sym (t .after ∙ add-zero p) in rw (same, e)
 wants-fault (field f k) s p q (n ∷ ns) g w t e =
@@ -170,6 +172,7 @@ wants-fault (field f k) s p q (n ∷ ns) g w t e =
 pub bars-fault :
     {T : Type 0} (l : Layout T) (s : List ℕ) (p q r : ℕ) (ns : List ℕ) (n : ℕ)
     → Bars l ns n → Stands s p q (joined written-number ns) → number-at s q ≡ Ok (n, r) → layout-at l s p ≡ Err (fault Value q)
+unfolding field-at
 bars-fault (done y) s p q r ns n b t e = absurd b
 bars-fault (field f k) s p q r [] n b t e = let same : p ≡ q = sym (t .after ∙ add-zero p) in rw (same, e, b)
 bars-fault (field f k) s p q r (m ∷ ns) n b t e =
@@ -228,5 +231,6 @@ module _ {T A : Type 0} (f : Field A) (k : A → Layout T) (s : List ℕ) (p : �
   number-answer rest (Err g) e = record { numbers = []; place = p; stands = stands-none s p; wants = tt; cause = inl e }
 
 pub layout-told : {T : Type 0} (l : Layout T) (s : List ℕ) (p : ℕ) → Bytes s → p ≤ length s → Answered l s p (layout-at l s p)
+unfolding field-at
 layout-told (done y) s p B h = record { numbers = []; makes = refl; stands = stands-none s p }
 layout-told (field f k) s p B h = number-answer f k s p B h (λ q i a. layout-told (k a) s q B i) (number-at s p) refl

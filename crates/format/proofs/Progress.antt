@@ -25,7 +25,7 @@ use Rattle.format.specs.declared.fault.RunFault.the-variants.{Read, Memory}
 use Rattle.format.specs.declared.fault.Reason.the-variants.{Value}
 use Rattle.format.specs.Layouts.{and-then, event-at, next-at}
 use Rattle.format.specs.Numbers.{Answer, Bytes, fault, number-at}
-use Rattle.format.specs.Openings.{counted, opening}
+use Rattle.format.specs.Openings.{count-at, opening}
 use Rattle.format.specs.Sheets.{Stands, Told}
 use Rattle.format.proofs.EventLaws.{event-wrote}
 use Rattle.format.proofs.LayoutLaws.{refused}
@@ -169,7 +169,7 @@ told-opening s f B e = record {
 pub opening-long : (s : List ℕ) → 65536 < length s → opening s ≡ Err (Read (fault Value 65536))
 opening-long s h = rw (lt-leb (length s) 65536 h)
 
-pub opening-short : (s : List ℕ) (r : Result (ℕ × ℕ) RunFault) → length s ≤ 65536 → counted (number-at s 0) ≡ r → opening s ≡ r
+pub opening-short : (s : List ℕ) (r : Result (ℕ × ℕ) RunFault) → length s ≤ 65536 → count-at s 0 ≡ r → opening s ≡ r
 opening-short s r h e = rw (le-leb (length s) 65536 h) e
 
 -- the same bytes have the same next event

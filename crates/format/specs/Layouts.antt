@@ -49,7 +49,7 @@ abbrev pub valued : {A : Type 0} → ℕ → ℕ → Option A → Answer A
 valued p q None = Err (fault Value p)
 valued p q (Some x) = Ok (x, q)
 
-abbrev pub field-at : {A : Type 0} → Field A → List ℕ → ℕ → Answer A
+unfoldable pub field-at : {A : Type 0} → Field A → List ℕ → ℕ → Answer A
 field-at f s p = and-then (number-at s p) (λ n q. valued p q (f .value n))
 
 abbrev pub layout-at : {T : Type 0} → Layout T → List ℕ → ℕ → Answer T

@@ -16,6 +16,10 @@ abbrev pub counted : Answer ℕ → Result (ℕ × ℕ) RunFault
 counted (Ok x) = cond (leb 1 (x .0) && leb (x .0) 8) (Ok x) (Err Sections)
 counted (Err f) = Err (Read f)
 
--- the count with the place after it; that a sheet is too long is told first
+-- the section count at p, with the place after it
+abbrev pub count-at : List ℕ → ℕ → Result (ℕ × ℕ) RunFault
+count-at s p = counted (number-at s p)
+
+-- what a sheet begins with; that it is too long is told first
 abbrev pub opening : List ℕ → Result (ℕ × ℕ) RunFault
-opening s = cond (leb (length s) 65536) (counted (number-at s 0)) (Err (Read (fault Value 65536)))
+opening s = cond (leb (length s) 65536) (count-at s 0) (Err (Read (fault Value 65536)))

@@ -2,7 +2,6 @@
 ghost use mathlib.Core.Path.{_≡_};
 ghost use Rattle.format.specs.Stops.{stop-of};
 ghost use Rattle.format.specs.declared.fault.RunFault.the-variants.{Read, Memory};
-use std::alloc::AllocError;
 use std::alloc::Refused;
 
 // A fault of the bytes. A discriminant is the fault's number.
@@ -62,15 +61,7 @@ pub impl From<ReadFault> for RunFault as RunFaultFromRead {
     ghost converts = { λ fault r. r ≡ Read fault };
 
     fn from(fault: ReadFault) -> RunFault {
-        RunFault::Read(fault)
-    }
-}
-
-pub impl From<AllocError> for RunFault as RunFaultFromAlloc {
-    ghost converts = { λ _ r. r ≡ Memory };
-
-    fn from(_error: AllocError) -> RunFault {
-        RunFault::Memory
+        Self::Read(fault)
     }
 }
 
@@ -78,6 +69,6 @@ pub impl<T: Drop> From<Refused<T>> for RunFault as RunFaultFromRefused {
     ghost converts = { λ _ r. r ≡ Memory };
 
     fn from(_refused: Refused<T>) -> RunFault {
-        RunFault::Memory
+        Self::Memory
     }
 }

@@ -1,4 +1,2 @@
-// Reads a sheet from lent bytes.
-pub mod cursor;
-mod number;
+// Reads a whole sheet: its section count and its events, each at its place.
 pub mod reading;

@@ -4,7 +4,7 @@ ghost use mathlib.Core.List.{[]};
 ghost use Rattle.std.specs.Of.Vec.{vec-items};
 ghost use Rattle.std.specs.declared.option.Option.the-variants.{None};
 ghost use Rattle.format.specs.Sheets.{Answers-exactly, One-reading, Told};
-use crate::cursor::Cursor;
+use cursor::Cursor;
 use events::event::LocatedEvent;
 use format::fault::RunFault;
 use format::fault::RunFaultFromRead;
@@ -29,14 +29,20 @@ impl Reading {
         }
     }
 
+    fn forget(&mut self)
+        ensures { λ _. ⌜ (now (self .exit) .sections ≡ None) × (vec-items (now (self .exit) .events) ≡ []) ⌝ }
+    {
+        self.sections = None;
+        self.events.clear();
+    }
+
     // Reads a sheet from its beginning. What was told before a fault stays.
     pub fn read(&mut self, sheet: &[u8]) -> Result<(), RunFault>
         ensures told { λ r. ⌜ Told (now (sheet .entry)) r (now (self .exit) .sections) (vec-items (now (self .exit) .events)) ⌝ }
         ensures exactly { λ r. ⌜ Answers-exactly (now (sheet .entry)) r ⌝ }
         ensures one { λ _. ⌜ One-reading (now (sheet .entry)) ⌝ }
     {
-        self.sections = None;
-        self.events.clear();
+        self.forget();
         let mut cursor = Cursor::open(sheet)?;
         self.sections = Some(cursor.sections()?);
         while let Some(event) = cursor.event()? {

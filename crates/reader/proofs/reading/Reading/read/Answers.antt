@@ -14,8 +14,8 @@ use Rattle.std.specs.declared.result.Result.the-variants.{Ok, Err}
 use Rattle.format.specs.declared.fault.RunFault.{RunFault}
 use Rattle.format.specs.declared.fault.RunFault.the-variants.{Read, Memory}
 use Rattle.format.specs.Layouts.{next-at}
-use Rattle.format.specs.Numbers.{Bytes, number-at}
-use Rattle.format.specs.Openings.{counted, opening}
+use Rattle.format.specs.Numbers.{Bytes}
+use Rattle.format.specs.Openings.{count-at, opening}
 use Rattle.format.specs.Sheets.{Told}
 use Rattle.format.proofs.Exactness.{answers-exactly, one-reading}
 use Rattle.format.proofs.Progress.{Progress, more, next-in, opening-long, opening-short, start, told-end, told-fault, told-memory, told-opening}
@@ -23,10 +23,10 @@ use Rattle.reader.proofs.reading.Reading.read.Needs as need
 use Rattle.reader.proofs.reading.Reading.read.Needs.{In-Continue-cursor, In-Continue-push}
 
 -- what the count's call answers is what the sheet opens with
-opened : (c : In-Continue-cursor) (r : Result (ℕ × ℕ) RunFault) → counted (number-at (c .in-Continue-cursor .cursor .sheet .now) (c .in-Continue-cursor .cursor .at)) ≡ r → opening (c .args .sheet .now) ≡ r
+opened : (c : In-Continue-cursor) (r : Result (ℕ × ℕ) RunFault) → count-at (c .in-Continue-cursor .cursor .sheet .now) (c .in-Continue-cursor .cursor .at) ≡ r → opening (c .args .sheet .now) ≡ r
 opened c r e =
     let o = c .in-Continue-cursor .ensures tt in
-    opening-short (c .args .sheet .now) r (o .2) ((λ i. counted (number-at (sym (o .0) i) (sym (o .1) i))) ∙ e)
+    opening-short (c .args .sheet .now) r (o .0) ((λ i. count-at (sym (o .1) i) (sym (o .2) i)) ∙ e)
 
 pub returns-in-Break-cursor : need.returns-in-Break-cursor
 returns-in-Break-cursor c =
@@ -35,8 +35,8 @@ returns-in-Break-cursor c =
     let o = c .in-Break-cursor .ensures tt in
     let bytes : Bytes s = search needs in
     let told : Told s (Err (Read (c .in-Break-cursor .field-0 .0))) None [] =
-    told-opening s _ bytes (opening-long s (o .1) ∙ ap (λ f. Err (Read f)) (sym (o .0))) in
-    rw (p .1, p .2, c .clear .ensures .items) (record { told = told; exactly = answers-exactly s _ _ _ told; one = one-reading s })
+    told-opening s _ bytes (opening-long s (o .0) ∙ ap (λ f. Err (Read f)) (sym (o .1))) in
+    rw (p .1, p .2, c .forget .ensures .0, c .forget .ensures .1) (record { told = told; exactly = answers-exactly s _ _ _ told; one = one-reading s })
 
 pub returns-in-Break-sections : need.returns-in-Break-sections
 returns-in-Break-sections c =
@@ -44,7 +44,7 @@ returns-in-Break-sections c =
     let s = c .args .sheet .now in
     let bytes : Bytes s = search needs in
     let told = told-opening s _ bytes (opened (need.at·returns-in-Break-sections c .In-Continue-cursor) _ (c .in-Break-sections .ensures tt .answer .0)) in
-    rw (p .1, p .2, c .clear .ensures .items) (record { told = told; exactly = answers-exactly s _ _ _ told; one = one-reading s })
+    rw (p .1, p .2, c .forget .ensures .0, c .forget .ensures .1) (record { told = told; exactly = answers-exactly s _ _ _ told; one = one-reading s })
 
 pub loop-event-holds : need.loop-event-holds
 loop-event-holds c =
@@ -52,7 +52,7 @@ loop-event-holds c =
     let s = c .args .sheet .now in
     let bytes : Bytes s = search needs in
     let first = start s _ _ bytes (opened (need.at·loop-event-holds c .In-Continue-cursor) _ (c .in-Continue-sections .ensures tt .answer)) in
-    (c .sections .ensures .sheet ∙ o .0, (_, refl, subst (Progress s _ _) (sym (c .clear .ensures .items)) first))
+    (c .sections .ensures .sheet ∙ o .1, (_, refl, subst (Progress s _ _) (sym (c .forget .ensures .1)) first))
 
 pub returns-in-Break-event : need.returns-in-Break-event
 returns-in-Break-event c =

@@ -1,0 +1,7 @@
+// The text that tells what a sheet holds.
+pub mod ending;
+pub mod event_line;
+pub mod event_words;
+pub mod sections_line;
+pub mod text;
+pub mod words;
