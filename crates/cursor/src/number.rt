@@ -1,6 +1,6 @@
 // A number at the beginning of some bytes, which stand at `start` of a sheet. Each function looks at one byte.
 ghost use mathlib.Core.Path.{_≡_};
-ghost use Prim.Native.Nat.{_+_, _<_, _≤_, _^_};
+ghost use Prim.Native.Nat.{_+_, _<_, _^_};
 ghost use lib.ListN.{length};
 ghost use Rattle.format.specs.Numbers.{first-byte, second-byte, third-byte};
 use format::fault::ReadFault;

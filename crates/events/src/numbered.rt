@@ -1,6 +1,6 @@
 // A value that a sheet writes as one number, and the number's value again.
 ghost use mathlib.Core.Path.{_≡_};
-ghost use Prim.Native.Nat.{ℕ, _≤_};
+ghost use Prim.Native.Nat.{ℕ};
 ghost use Rattle.std.specs.declared.option.Option.the-variants.{Some};
 ghost use Rattle.events.specs.Fields.{Field};
 ghost use Rattle.events.specs.Fields.{stations, directions, codes, turns, consents, positions, places, kinds};

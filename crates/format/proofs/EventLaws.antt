@@ -1,15 +1,13 @@
 -- The numbers of each kind of event, and what is answered at an event. Assumes nothing.
 use mathlib.Core.Path.{_≡_, refl, sym, ap, subst, _∙_}
 use mathlib.Core.Logic.{⊎-elim}
-use mathlib.Core.Bool.{Bool, true, false, cond, _&&_}
-use mathlib.Core.List.{List, [], _∷_, _++_}
+use mathlib.Core.Bool.{true}
+use mathlib.Core.List.{List, [], _∷_}
 use Prim.Native.Nat.{ℕ, _≤_}
 use native.Mathlib.Omega.{arith}
-use lib.Dec.{leb}
 use lib.ListN.{length}
 use Rattle.std.proofs.shelf.Ways.{tells}
 use Rattle.std.specs.Joined.{joined}
-use Rattle.std.specs.declared.option.Option.the-variants.{Some, None}
 use Rattle.std.specs.declared.result.Result.the-variants.{Ok, Err}
 use Rattle.events.proofs.Listed.{listed-back}
 use Rattle.events.specs.declared.event.Event.{Event}
@@ -31,7 +29,7 @@ use Rattle.events.specs.declared.field.Station.{Station}
 use Rattle.events.specs.declared.field.Station.the-variants.{Zero}
 use Rattle.events.specs.declared.field.Turn.{Turn}
 use Rattle.events.specs.declared.field.Turn.the-variants.{Straight}
-use Rattle.events.specs.Fields.{Field, from-to, axle-counts, sections, tracks}
+use Rattle.events.specs.Fields.{from-to, axle-counts, sections, tracks}
 use Rattle.events.specs.Fields.{stations, station-number, every-station}
 use Rattle.events.specs.Fields.{directions, direction-number, every-direction}
 use Rattle.events.specs.Fields.{codes, code-number, every-code}
@@ -47,7 +45,7 @@ use Rattle.format.specs.Layouts.{Layout, done, field, and-then, event-at, fiel
 use Rattle.format.specs.Numbers.{Answer, Bytes, fault, number-at}
 use Rattle.format.specs.Sheets.{Begun, Goes-on, Stands}
 use Rattle.format.proofs.LayoutLaws.{Answered, Bars, Filled, Makes, Means, Sound, Stopped, Wants, Writes, Made}
-use Rattle.format.proofs.LayoutLaws.{bars-fault, bars-makes, bars-wants, layout-reads, layout-told, makes-wants, makes-written, wanted-number, wants-fault, wants-makes, written-filled}
+use Rattle.format.proofs.LayoutLaws.{bars-fault, bars-makes, layout-reads, layout-told, makes-wants, makes-written, wanted-number, wants-fault, wants-makes, written-filled}
 
 -- Each field has a number for each value and a value for each of its numbers.
 

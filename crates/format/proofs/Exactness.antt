@@ -1,5 +1,5 @@
 -- Each answer is given exactly when it is due, and a sheet has one reading. Assumes nothing.
-use mathlib.Core.Path.{_≡_, refl, sym, ap, subst, _∙_}
+use mathlib.Core.Path.{_≡_, refl, sym, subst, _∙_}
 use mathlib.Core.Logic.{_⊎_, inl, inr, ⊎-elim}
 use mathlib.Core.List.{List}
 use Prim.Native.Nat.{ℕ}
@@ -9,10 +9,9 @@ use Rattle.std.specs.declared.option.Option.the-variants.{Some}
 use Rattle.std.specs.declared.result.Result.the-variants.{Ok, Err}
 use Rattle.events.specs.declared.event.LocatedEvent.{LocatedEvent}
 use Rattle.events.specs.declared.event.SectionEvent.{SectionEvent}
-use Rattle.format.specs.declared.fault.Reason.{Reason}
 use Rattle.format.specs.declared.fault.RunFault.the-variants.{Read, Sections, Memory}
 use Rattle.format.specs.Numbers.{fault}
-use Rattle.format.specs.Sheets.{Answers-exactly, Exactly, One-reading, One-telling, Outcome, Sheet, Tells, Told}
+use Rattle.format.specs.Sheets.{Answers-exactly, Exactly, One-reading, One-telling, Outcome, Tells, Told}
 use Rattle.format.proofs.SheetLaws.{course-one, tells-course}
 
 pub one-telling : One-telling

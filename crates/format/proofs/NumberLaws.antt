@@ -4,15 +4,14 @@ use mathlib.Core.Logic.{_⊎_, inl, inr, ⊎-elim}
 use mathlib.Core.List.{List, [], _∷_, _++_}
 use Prim.Native.Nat.{ℕ, suc, _+_, _-_, _*_, _/_, _%_, _<_, _≤_}
 use native.Mathlib.Omega.{arith}
-use lib.Dec.{ltb, leb, eqb}
-use lib.ListN.{length, getD, drop}
+use lib.ListN.{length, drop}
 use Rattle.std.proofs.shelf.Lists.{drop-all, drop-at, drop-drop, getD-drop, length-append}
 use Rattle.std.proofs.shelf.Tests.{cases-lt, cases-eq, lt-ltb, le-ltb, le-leb, lt-leb, eq-eqb, ne-eqb}
 use Rattle.std.specs.declared.result.Result.the-variants.{Ok, Err}
 use Rattle.events.specs.Written.{written-number}
 use Rattle.format.specs.declared.fault.Reason.the-variants.{Ends, Form}
 use Rattle.format.specs.Numbers.{Answer, Bytes, fault, first-byte, number-at, second-byte, third-byte}
-use Rattle.format.specs.Sheets.{Begins, Cut, Endless, Malformed, Padded, Stands, Too-large}
+use Rattle.format.specs.Sheets.{Begins, Cut, Malformed, Stands}
 use Rattle.format.proofs.Standing.{stands-inside}
 
 -- the written form, by its length
@@ -184,8 +183,9 @@ module _ (a b : ℕ) (h : 128 < a) (k : a < 256) (i : 128 ≤ b) (j : b < 256) w
       (λ m. let small : n ≤ 65535 = omega arith in rw (lt-ltb c 128 l, le-leb n 65535 small) (begun, small, rw is))
       (λ m.
       let big : 65535 < n = omega arith in
+      let three : n < 2097152 = omega arith in
       rw (lt-ltb c 128 l, lt-leb n 65535 big)
-      (inr (p + 2, refl, inr (refl, record { number = n; begins = begun; large = big; three-bytes = omega arith }))))
+      (inr (p + 2, refl, inr (refl, record { number = n; begins = begun; large = big; three-bytes = three }))))
       (cases-lt n 65536))
       (λ l. rw (le-ltb c 128 l) (inr (p, refl, inl (refl, inr (record { one = a; two = b; three = c; rest = cs; whole = refl; high-one = h; high-two = i; high-three = l })))))
       (cases-lt c 128)
@@ -201,7 +201,8 @@ second-told p a (b ∷ bs) h k B =
     let ea : 128 + n / 128 ≡ a = omega arith in
     let eb : n % 128 ≡ b = omega arith in
     let is : written-number n ≡ a ∷ b ∷ [] = two-bytes n low high ∙ rw (ea, eb) in
-    rw (lt-ltb b 128 l) (record { rest = bs; whole = rw is }, omega arith, rw is))
+    let small : n ≤ 65535 = omega arith in
+    rw (lt-ltb b 128 l) (record { rest = bs; whole = rw is }, small, rw is))
     (λ l. rw (le-ltb b 128 l) (third-told a b h k l (B 0) p bs))
     (cases-lt b 128)
 

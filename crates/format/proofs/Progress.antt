@@ -1,12 +1,10 @@
 -- What has been read of a sheet, event by event, and what is told where reading ends. Assumes nothing.
 use mathlib.Core.Path.{_≡_, refl, sym, ap, subst, _∙_}
 use mathlib.Core.Logic.{_⊎_, inl, inr, ⊎-elim}
-use mathlib.Core.Bool.{cond}
 use mathlib.Core.List.{List, [], _∷_, _++_}
 use Prim.Native.Nat.{ℕ, _+_, _<_, _≤_}
 use native.Mathlib.Nat.{add-zero, zero-add}
 use native.Mathlib.Omega.{arith}
-use lib.Dec.{leb, ltb}
 use lib.ListN.{length}
 use Rattle.std.proofs.shelf.Elements.{all-push}
 use Rattle.std.proofs.shelf.Lists.{length-append, joined-more}
@@ -24,7 +22,7 @@ use Rattle.format.specs.declared.fault.RunFault.{RunFault}
 use Rattle.format.specs.declared.fault.RunFault.the-variants.{Read, Memory}
 use Rattle.format.specs.declared.fault.Reason.the-variants.{Value}
 use Rattle.format.specs.Layouts.{and-then, event-at, next-at}
-use Rattle.format.specs.Numbers.{Answer, Bytes, fault, number-at}
+use Rattle.format.specs.Numbers.{Answer, Bytes, fault}
 use Rattle.format.specs.Openings.{count-at, opening}
 use Rattle.format.specs.Sheets.{Stands, Told}
 use Rattle.format.proofs.EventLaws.{event-wrote}

@@ -1,12 +1,10 @@
 -- A sheet is told in one way, and each answer is what its bytes are. Assumes nothing.
 use mathlib.Core.Path.{_≡_, refl, sym, ap, subst, _∙_}
 use mathlib.Core.Logic.{_⊎_, inl, inr, ⊎-elim}
-use mathlib.Core.Bool.{Bool, true, false, cond, _&&_}
-use mathlib.Core.List.{List, [], _∷_, _++_, append-nil, append-assoc}
-use Prim.Native.Nat.{ℕ, _+_, _-_, _<_, _≤_}
-use native.Mathlib.Nat.{add-zero, zero-add}
+use mathlib.Core.List.{List, [], _∷_, _++_, append-nil}
+use Prim.Native.Nat.{ℕ, _+_, _<_, _≤_}
+use native.Mathlib.Nat.{add-zero}
 use native.Mathlib.Omega.{arith}
-use lib.Dec.{leb}
 use lib.ListN.{length, drop}
 use Rattle.std.proofs.shelf.Lists.{length-append, length-drop, drop-all, drop-at, drop-drop}
 use Rattle.std.proofs.shelf.Tests.{cases-lt, le-leb, lt-leb}
@@ -17,7 +15,7 @@ use Rattle.std.specs.declared.option.Option.the-variants.{Some, None}
 use Rattle.std.specs.declared.result.Result.{Result}
 use Rattle.std.specs.declared.result.Result.the-variants.{Ok, Err}
 use Rattle.events.specs.declared.event.SectionEvent.{SectionEvent}
-use Rattle.events.specs.Written.{kind-of, numbers-in, written-event, written-number, written-sheet, Proper}
+use Rattle.events.specs.Written.{kind-of, written-event, written-number, written-sheet, Proper}
 use Rattle.events.specs.Fields.{kind-number}
 use Rattle.format.specs.declared.fault.ReadFault.{ReadFault}
 use Rattle.format.specs.declared.fault.Reason.{Reason}
@@ -27,11 +25,11 @@ use Rattle.format.specs.declared.fault.RunFault.the-variants.{Read, Sections, 
 use Rattle.format.specs.Layouts.{event-at}
 use Rattle.format.specs.Numbers.{Answer, Bytes, fault, number-at}
 use Rattle.format.specs.Openings.{counted, opening}
-use Rattle.format.specs.Sheets.{Bad-count, Bad-form, Bad-value, Begins, Ends-inside, Goes-on, Malformed, Nothing, Outcome, Read-up-to, Section-count, Sheet, Stands, Stops-for, Tells, Too-long, Wanted}
-use Rattle.format.proofs.EventLaws.{bars-stuck, event-reads, event-stopped, event-wrote, number-stops, value-stops, wants-begun}
+use Rattle.format.specs.Sheets.{Begins, Goes-on, Malformed, Nothing, Outcome, Read-up-to, Section-count, Sheet, Stands, Stops-for, Tells, Wanted}
+use Rattle.format.proofs.EventLaws.{bars-stuck, event-reads, event-stopped, number-stops, value-stops, wants-begun}
 use Rattle.format.proofs.LayoutLaws.{refused}
 use Rattle.format.proofs.NumberLaws.{Number-told, cut-ends, malformed-stops, number-reads, number-told, number-wrote, written-long}
-use Rattle.format.proofs.Standing.{stands-front, stands-back, stands-inside, stands-join, stands-none, stands-whole, stands-within}
+use Rattle.format.proofs.Standing.{stands-front, stands-back, stands-inside, stands-join, stands-whole, stands-within}
 
 -- The section count.
 
@@ -124,10 +122,10 @@ pub sofar-whole : (s : List ℕ) (n q p : ℕ) (es : List SectionEvent) → Byte
 sofar-whole s n q p es B h = stands-join (sofar-opened s n q p es B h .2) (h .stands)
 
 number-tells :
-    (s : List ℕ) (n p : ℕ) (es : List SectionEvent) (ns : List ℕ) (o : ℕ) (f : ReadFault)
+    (s : List ℕ) (n : ℕ) (es : List SectionEvent) (ns : List ℕ) (o : ℕ) (f : ReadFault)
     → Bytes s → length s ≤ 65536 → o ≤ length s → Read-up-to s o n es ns → 0 < length ns + length (drop o s) → number-at s o ≡ Err f
     → Stops-for (f .reason) s (f .offset) (Some n) es
-number-tells s n p es ns o f B h l u i e =
+number-tells s n es ns o f B h l u i e =
     ⊎-elim
     (λ t. subst (λ g. Stops-for (g .reason) s (g .offset) (Some n) es) (sym (t .0)) (record { short = h; numbers = ns; wanted = u; cut = t .1; inside = inr i }))
     (λ t. subst (λ g. Stops-for (g .reason) s (g .offset) (Some n) es) (sym (t .1)) (record { short = h; numbers = ns; place = o; wanted = u; malformed = t .2 }))
@@ -152,7 +150,7 @@ event-stops s n q p es f B h l e =
       stands = stands-join (sofar-whole s n q p es B h) (t .stands);
     } in
     ⊎-elim
-    (λ c. number-tells s n p es (t .numbers) (t .place) f B (o .0) within u (something-left s p (t .place) (t .numbers) l (t .stands)) c)
+    (λ c. number-tells s n es (t .numbers) (t .place) f B (o .0) within u (something-left s p (t .place) (t .numbers) l (t .stands)) c)
     (λ c.
     let w = number-wrote s (t .place) (c .1) (c .0) B within (c .2) in
     subst (λ g. Stops-for (g .reason) s (g .offset) (Some n) es) (sym (c .3))

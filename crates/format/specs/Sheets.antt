@@ -12,7 +12,7 @@ use Rattle.std.specs.declared.result.Result.{Result}
 use Rattle.std.specs.declared.result.Result.the-variants.{Ok, Err}
 use Rattle.events.specs.declared.event.LocatedEvent.{LocatedEvent}
 use Rattle.events.specs.declared.event.SectionEvent.{SectionEvent}
-use Rattle.events.specs.Written.{written-number, numbers-in, written-event, written-sheet, located, Proper}
+use Rattle.events.specs.Written.{written-number, numbers-in, written-sheet, located, Proper}
 use Rattle.format.specs.declared.fault.Reason.{Reason}
 use Rattle.format.specs.declared.fault.Reason.the-variants.{Ends, Form, Value}
 use Rattle.format.specs.declared.fault.RunFault.{RunFault}

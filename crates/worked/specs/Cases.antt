@@ -1,7 +1,6 @@
 -- The worked cases of the rules, stated of the rules themselves, together. Assumes nothing.
 use mathlib.Core.Path.{_≡_}
-use mathlib.Core.List.{List, [], _∷_}
-use Prim.Native.Nat.{ℕ}
+use mathlib.Core.List.{[], _∷_}
 use Rattle.std.specs.declared.result.Result.the-variants.{Ok, Err}
 use Rattle.detector.specs.Meaning.{counted-in, counted-out, fresh, reading-of}
 use Rattle.detector.specs.declared.Reading.the-variants.{Failed, Occupied}

@@ -1,4 +1,3 @@
-use Rattle.format.proofs.Progress.{told-opening}
 use Rattle.format.proofs.Exactness.{one-telling}
 use Rattle.format.proofs.laws.sheets_are_told_in_one_way.Needs as need
 

@@ -7,13 +7,12 @@ use lib.ListN.{length}
 use Rattle.std.proofs.Told.{chosen}
 use Rattle.std.proofs.shelf.Results.{err-from-errBy}
 use Rattle.std.specs.Of.Vec.{vec-items}
-use Rattle.std.specs.Results.{isErr, isOk}
-use Rattle.std.specs.declared.option.Option.the-variants.{None, Some}
+use Rattle.std.specs.Results.{isOk}
+use Rattle.std.specs.declared.option.Option.the-variants.{None}
 use Rattle.std.specs.declared.result.Result.{Result}
 use Rattle.std.specs.declared.result.Result.the-variants.{Ok, Err}
 use Rattle.format.specs.declared.fault.RunFault.{RunFault}
-use Rattle.format.specs.declared.fault.RunFault.the-variants.{Read, Memory}
-use Rattle.format.specs.Layouts.{next-at}
+use Rattle.format.specs.declared.fault.RunFault.the-variants.{Read}
 use Rattle.format.specs.Numbers.{Bytes}
 use Rattle.format.specs.Openings.{count-at, opening}
 use Rattle.format.specs.Sheets.{Told}
