@@ -1,8 +1,8 @@
 // The axle counter as a detector. Beside the meaning, each call says what becomes of both totals.
 ghost use mathlib.Core.Path.{_≡_};
 ghost use Rattle.axle_counter.specs.AxleCounters.{totals-of, counter-meaning};
-ghost use Rattle.detector.specs.Meaning.{fresh, counted-in, counted-out, failing, restored, rolled};
 ghost use Rattle.axle_counter.specs.Totals.{no-totals, totals-in, totals-out, totals-failing};
+ghost use Rattle.detector.specs.Meaning.{fresh, counted-in, counted-out, failing, restored, rolled};
 use super::AxleCounter;
 use super::ROUND;
 use detector::Detector;

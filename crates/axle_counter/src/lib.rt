@@ -2,8 +2,8 @@
 // `detects` has its calls, and what each makes of both totals.
 ghost use mathlib.Core.Path.{_≡_};
 ghost use Prim.Native.Nat.{_<_, _≤_};
-ghost use Rattle.detector.specs.Meaning.{limit};
 ghost use Rattle.axle_counter.specs.Totals.{round, axles-between};
+ghost use Rattle.detector.specs.Meaning.{limit};
 
 pub mod detects;
 

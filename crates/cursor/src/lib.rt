@@ -1,7 +1,7 @@
 // A place in a lent sheet, from which numbers and events are read.
 ghost use Rattle.cursor.specs.Cursors.{Goes, Moves, Opens};
 ghost use Rattle.events.specs.Fields.{from-to};
-ghost use Rattle.format.specs.Layouts.{event-at, field-at, next-at};
+ghost use Rattle.format.specs.Layouts.{field-at, next-at};
 ghost use Rattle.format.specs.Numbers.{number-at};
 ghost use Rattle.format.specs.Openings.{count-at};
 
@@ -99,15 +99,6 @@ impl<'a> Cursor<'a> {
         Ok(number)
     }
 
-    fn section_event(&mut self) -> Result<SectionEvent, ReadFault>
-        ensures { λ r. ⌜ Goes event-at (now (self .entry)) (now (self .exit)) r ⌝ }
-    {
-        let kind = self.value()?;
-        let section = self.number()?;
-        let event = self.fields(kind)?;
-        Ok(SectionEvent { section, event })
-    }
-
     // The next event at its place, or none at the sheet's end. It is read ahead, so that a fault leaves the cursor where it stood.
     pub fn event(&mut self) -> Result<Option<LocatedEvent>, ReadFault>
         ensures { λ r. ⌜ Moves next-at (now (self .entry)) (now (self .exit)) r ⌝ }
@@ -120,8 +111,11 @@ impl<'a> Cursor<'a> {
             sheet: self.sheet,
             at: offset,
         };
-        let told = ahead.section_event()?;
+        let kind = ahead.value()?;
+        let section = ahead.number()?;
+        let event = ahead.fields(kind)?;
         self.at = ahead.at;
+        let told = SectionEvent { section, event };
         Ok(Some(LocatedEvent { offset, told }))
     }
 }

@@ -5,7 +5,7 @@ use lib.Dec.{leb, eqb}
 use Rattle.detector.specs.declared.Reading.{Reading}
 use Rattle.detector.specs.declared.Reading.the-variants.{Clear, Occupied, Failed}
 
--- the axles in the section, and whether the count has failed
+-- the axles on the line, and whether the detector has failed
 pub record Meaning : Type 0 where
   pub axles : ℕ
   pub failed : Bool

@@ -4,4 +4,4 @@ pub mod event_line;
 pub mod event_words;
 pub mod sections_line;
 pub mod text;
-pub mod words;
+mod words;

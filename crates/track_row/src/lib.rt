@@ -47,12 +47,12 @@ fn clear_off(tracks: &mut [u16; TRACKS], at: usize) -> u16
     here
 }
 
-// Which track gives next, once so many have: the highest gives first.
-fn next_to_give(given: usize) -> usize
-    requires { ⌜ given < track-count ⌝ }
-    ensures { λ r. ⌜ r + given + 1 ≡ track-count ⌝ }
+// Which track gives in a turn: the highest one in turn 0, and then each one below.
+fn giving_in(turn: usize) -> usize
+    requires { ⌜ turn < track-count ⌝ }
+    ensures { λ r. ⌜ r + turn + 1 ≡ track-count ⌝ }
 {
-    TRACKS - 1 - given
+    TRACKS - 1 - turn
 }
 
 // Takes axles off the tracks in turn, and says how many were not there to take.
@@ -62,8 +62,8 @@ fn take_off(tracks: &mut [u16; TRACKS], axles: u16) -> u16
     ensures missing { λ r. ⌜ r ≡ axles - sum (now (tracks .entry)) ⌝ }
 {
     let mut rest = axles;
-    for given in 0..TRACKS {
-        let t = next_to_give(given);
+    for turn in 0..TRACKS {
+        let t = giving_in(turn);
         let off = rest.min(tracks[t]);
         tracks[t] -= off;
         rest -= off;
