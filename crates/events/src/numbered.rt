@@ -1,4 +1,4 @@
-// A value that a sheet writes as one number, and the number's value again.
+// A value that a sheet writes as one number: what each number stands for.
 ghost use mathlib.Core.Path.{_≡_};
 ghost use Prim.Native.Nat.{ℕ};
 ghost use Rattle.std.specs.declared.option.Option.the-variants.{Some};
@@ -22,19 +22,12 @@ pub trait Numbered: Sized {
     // and no other number stands for it.
     law one_number: { (n : ℕ) (x : Self) → field .value n ≡ Some x → n ≡ field .number x };
 
-    fn number(self) -> u16
-        ensures { λ r. ⌜ r ≡ field .number self ⌝ };
-
     fn from_number(number: u16) -> Option<Self>
         ensures { λ r. ⌜ r ≡ field .value number ⌝ };
 }
 
 pub impl Numbered for Station as StationNumbered {
     ghost field = { stations };
-
-    fn number(self) -> u16 {
-        self as u16
-    }
 
     fn from_number(number: u16) -> Option<Station> {
         match number {
@@ -48,10 +41,6 @@ pub impl Numbered for Station as StationNumbered {
 pub impl Numbered for Direction as DirectionNumbered {
     ghost field = { directions };
 
-    fn number(self) -> u16 {
-        self as u16
-    }
-
     fn from_number(number: u16) -> Option<Direction> {
         match number {
             0 => Some(Direction::Up),
@@ -63,10 +52,6 @@ pub impl Numbered for Direction as DirectionNumbered {
 
 pub impl Numbered for Code as CodeNumbered {
     ghost field = { codes };
-
-    fn number(self) -> u16 {
-        self as u16
-    }
 
     fn from_number(number: u16) -> Option<Code> {
         match number {
@@ -86,10 +71,6 @@ pub impl Numbered for Code as CodeNumbered {
 pub impl Numbered for Turn as TurnNumbered {
     ghost field = { turns };
 
-    fn number(self) -> u16 {
-        self as u16
-    }
-
     fn from_number(number: u16) -> Option<Turn> {
         match number {
             0 => Some(Turn::Straight),
@@ -103,10 +84,6 @@ pub impl Numbered for Turn as TurnNumbered {
 pub impl Numbered for Consent as ConsentNumbered {
     ghost field = { consents };
 
-    fn number(self) -> u16 {
-        self as u16
-    }
-
     fn from_number(number: u16) -> Option<Consent> {
         match number {
             0 => Some(Consent::Withheld),
@@ -118,10 +95,6 @@ pub impl Numbered for Consent as ConsentNumbered {
 
 pub impl Numbered for Position as PositionNumbered {
     ghost field = { positions };
-
-    fn number(self) -> u16 {
-        self as u16
-    }
 
     fn from_number(number: u16) -> Option<Position> {
         match number {
@@ -135,10 +108,6 @@ pub impl Numbered for Position as PositionNumbered {
 pub impl Numbered for Place as PlaceNumbered {
     ghost field = { places };
 
-    fn number(self) -> u16 {
-        self as u16
-    }
-
     fn from_number(number: u16) -> Option<Place> {
         match number {
             0 => Some(Place::Arrived),
@@ -150,10 +119,6 @@ pub impl Numbered for Place as PlaceNumbered {
 
 pub impl Numbered for Kind as KindNumbered {
     ghost field = { kinds };
-
-    fn number(self) -> u16 {
-        self as u16
-    }
 
     fn from_number(number: u16) -> Option<Kind> {
         match number {

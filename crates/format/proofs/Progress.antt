@@ -89,36 +89,15 @@ located-push p (d ∷ es) e =
     ap (λ l. at-place p d ∷ l)
     (ap (λ n. located (p + length (written-event d)) es ++ at-place n e ∷ []) (simp length-append (omega arith)) ∙ located-push (p + length (written-event d)) es e)
 
--- one event more, which lies further on
-pub more :
+-- the event that is told next stands at p
+next-wrote :
     (s : List ℕ) (n p r : ℕ) (vs : List LocatedEvent) (v : LocatedEvent)
-    → Progress s n p vs → next-at s p ≡ Ok (Some v, r) → Progress s n r (vs ++ v ∷ []) × (p < length s) × (p < r)
-more s n p r vs v h e =
+    → Progress s n p vs → next-at s p ≡ Ok (Some v, r) → (p < length s) × (v .offset ≡ p) × (Stands s p r (written-event (v .told)) × Proper (v .told))
+next-wrote s n p r vs v h e =
     ⊎-elim
     (λ x.
     let d = placed-some p r (event-at s p) v (sym (x .1) ∙ e) in
-    let t = h .sofar in
-    let count = sofar-opened s n (h .q) p (h .es) (h .bytes) t .2 in
-    let w = event-wrote (v .told) s p r (h .bytes) (omega arith) (d .1) in
-    let first : h .q ≡ length (written-number n) = count .after ∙ zero-add _ in
-    let here : v .offset ≡ length (written-number n) + length (joined written-event (h .es)) = omega (arith, d .0, t .stands .after, first) in (
-      record {
-        q = h .q;
-        es = h .es ++ v .told ∷ [];
-        sofar = record {
-          opened = t .opened;
-          proper = all-push Proper (h .es) (v .told) (t .proper) (w .1);
-          stands = subst (Stands s (h .q) r) (joined-more written-event [] (h .es) (v .told)) (stands-join (t .stands) (w .0));
-        };
-        places =
-            ap (λ l. l ++ v ∷ []) (h .places)
-            ∙ ap (λ m. located (length (written-number n)) (h .es) ++ at-place m (v .told) ∷ []) here
-            ∙ located-push (length (written-number n)) (h .es) (v .told);
-        bytes = h .bytes;
-      },
-      x .0,
-      omega (arith, w .0 .after, event-long (v .told)),
-    ))
+    (x .0, d .0, event-wrote (v .told) s p r (h .bytes) (omega arith) (d .1)))
     (λ x. absurd (none-some (sym (x .1) ∙ e)))
     (next-either s p)
   where
@@ -127,6 +106,34 @@ more s n p r vs v h e =
         let same : _≡_ {A = Option LocatedEvent × ℕ} (None, i) (Some u, j) = cc in
         let y : _≡_ {A = ℕ} 0 1 = let w = ap (λ y. y .0) same in cc in
         omega arith
+
+-- one event more, which lies further on
+pub more :
+    (s : List ℕ) (n p r : ℕ) (vs : List LocatedEvent) (v : LocatedEvent)
+    → Progress s n p vs → next-at s p ≡ Ok (Some v, r) → Progress s n r (vs ++ v ∷ []) × (p < length s) × (p < r)
+more s n p r vs v h e =
+    let w = next-wrote s n p r vs v h e in
+    let t = h .sofar in
+    let count = sofar-opened s n (h .q) p (h .es) (h .bytes) t .2 in
+    let first : h .q ≡ length (written-number n) = count .after ∙ zero-add _ in
+    let here : v .offset ≡ length (written-number n) + length (joined written-event (h .es)) = omega (arith, w .1, t .stands .after, first) in (
+      record {
+        q = h .q;
+        es = h .es ++ v .told ∷ [];
+        sofar = record {
+          opened = t .opened;
+          proper = all-push Proper (h .es) (v .told) (t .proper) (w .2 .1);
+          stands = subst (Stands s (h .q) r) (joined-more written-event [] (h .es) (v .told)) (stands-join (t .stands) (w .2 .0));
+        };
+        places =
+            ap (λ l. l ++ v ∷ []) (h .places)
+            ∙ ap (λ m. located (length (written-number n)) (h .es) ++ at-place m (v .told) ∷ []) here
+            ∙ located-push (length (written-number n)) (h .es) (v .told);
+        bytes = h .bytes;
+      },
+      w .0,
+      omega (arith, w .2 .0 .after, event-long (v .told)),
+    )
 
 -- Where reading ends.
 
@@ -149,12 +156,29 @@ told-fault s n p vs f h e =
     (λ x. absurd (refused (sym e ∙ x .1)))
     (next-either s p)
 
-pub told-memory : (s : List ℕ) (n p : ℕ) (vs : List LocatedEvent) → Progress s n p vs → Told s (Err Memory) (Some n) vs
-told-memory s n p vs h = record {
-  es = h .es;
-  tells = (sofar-opened s n (h .q) p (h .es) (h .bytes) (h .sofar) .1, h .sofar .proper, (p, sofar-whole s n (h .q) p (h .es) (h .bytes) (h .sofar)));
-  places = h .places;
-}
+pub told-memory :
+    (s : List ℕ) (n p r : ℕ) (vs : List LocatedEvent) (v : LocatedEvent)
+    → Progress s n p vs → next-at s p ≡ Ok (Some v, r) → Told s (Err Memory) (Some n) vs
+told-memory s n p r vs v h e =
+    let o = sofar-opened s n (h .q) p (h .es) (h .bytes) (h .sofar) in
+    let w = next-wrote s n p r vs v h e in
+    record {
+      es = h .es;
+      tells = record {
+        short = o .0;
+        count = n;
+        counted = refl;
+        section-count = o .1;
+        proper = h .sofar .proper;
+        place = p;
+        stands = sofar-whole s n (h .q) p (h .es) (h .bytes) (h .sofar);
+        next = v .told;
+        next-proper = w .2 .1;
+        after = r;
+        next-stands = w .2 .0;
+      };
+      places = h .places;
+    }
 
 pub told-opening : (s : List ℕ) (f : RunFault) → Bytes s → opening s ≡ Err f → Told s (Err f) None []
 told-opening s f B e = record {

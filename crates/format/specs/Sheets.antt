@@ -12,7 +12,7 @@ use Rattle.std.specs.declared.result.Result.{Result}
 use Rattle.std.specs.declared.result.Result.the-variants.{Ok, Err}
 use Rattle.events.specs.declared.event.LocatedEvent.{LocatedEvent}
 use Rattle.events.specs.declared.event.SectionEvent.{SectionEvent}
-use Rattle.events.specs.Written.{written-number, numbers-in, written-sheet, located, Proper}
+use Rattle.events.specs.Written.{written-number, numbers-in, written-event, written-sheet, located, Proper}
 use Rattle.format.specs.declared.fault.Reason.{Reason}
 use Rattle.format.specs.declared.fault.Reason.the-variants.{Ends, Form, Value}
 use Rattle.format.specs.declared.fault.RunFault.{RunFault}
@@ -167,17 +167,26 @@ Stops-for Value s o sections es = Bad-value s o sections es ⊎ Too-long s o sec
 abbrev pub Outcome : Type 0
 Outcome = Result (Unit {0}) RunFault
 
--- for want of memory reading may stop anywhere; what it told is there
-abbrev pub Told-of : List ℕ → Option ℕ → List SectionEvent → Type 0
-Told-of s None es = es ≡ []
-Told-of s (Some count) es = Section-count count × All Proper es × ((q : ℕ) × Stands s 0 q (written-sheet count es))
+-- memory is wanted for one more event, which stands next
+pub record Wants-memory (s : List ℕ) (sections : Option ℕ) (es : List SectionEvent) : Type 0 where
+  pub short : length s ≤ 65536
+  pub count : ℕ
+  pub counted : sections ≡ Some count
+  pub section-count : Section-count count
+  pub proper : All Proper es
+  pub place : ℕ
+  pub stands : Stands s 0 place (written-sheet count es)
+  pub next : SectionEvent
+  pub next-proper : Proper next
+  pub after : ℕ
+  pub next-stands : Stands s place after (written-event next)
 
 -- the answer to s, the section count told and the events told
 abbrev pub Tells : List ℕ → Outcome → Option ℕ → List SectionEvent → Type 0
 Tells s (Ok _) sections es = (count : ℕ) × (sections ≡ Some count) × Sheet s count es
 Tells s (Err (Read f)) sections es = Stops-for (f .reason) s (f .offset) sections es
 Tells s (Err Sections) sections es = Bad-count s sections es
-Tells s (Err Memory) sections es = Told-of s sections es
+Tells s (Err Memory) sections es = Wants-memory s sections es
 
 -- every sheet is told in one way, if memory lasts
 abbrev pub One-telling : Type 0

@@ -8,7 +8,7 @@ use Rattle.std.specs.declared.option.Option.the-variants.{None, Some}
 use Rattle.events.specs.declared.event.LocatedEvent.{LocatedEvent}
 use Rattle.listing.specs.declared.ending.Ending.{Ending}
 use Rattle.listing.specs.declared.ending.Ending.the-variants.{End, Stop}
-use Rattle.listing.specs.Words.{event-words, _then_}
+use Rattle.words.specs.Words.{event-words, _then_}
 
 -- A line, without its newline.
 

@@ -1,10 +1,10 @@
 // The line of one event.
 ghost use Rattle.std.specs.declared.option.Option.the-variants.{Some};
 ghost use Rattle.listing.specs.Lines.{event-text};
-use crate::event_words::EventWords;
-use crate::event_words::EventWordsDisplay;
 use events::event::LocatedEvent;
 use std::fmt;
+use words::event_words::EventWords;
+use words::event_words::EventWordsDisplay;
 
 // Tells where the event stands, its section and its words.
 #[derive(Clone, Copy)]

@@ -85,7 +85,9 @@ returns-in-Break-push c =
     let p = err-from-errBy (c .from-residual-in-Break-push .result) (c .from-residual-in-Break-push .ensures .1) in
     let s = c .args .sheet .now in
     let inv = c .loop-event .inv in
-    let told = told-memory s (inv .1 .0) _ _ (inv .1 .2) in
+    let told =
+    told-memory s (inv .1 .0) _ _ _ _ (inv .1 .2)
+    (next-in _ _ _ _ (inv .0) (c .in-Continue-event .ensures tt .answer) ∙ ap (λ v. Ok (v, c .event .last .self .at)) (c .in-Some .is)) in
     rw (p .1, p .2, inv .1 .1, c .in-Break-push .ensures tt .items) (record { told = told; exactly = answers-exactly s _ _ _ told; one = one-reading s })
 
 pub returns : need.returns

@@ -2,11 +2,13 @@
 ghost use mathlib.Core.List.{List};
 ghost use mathlib.Core.Path.{_≡_};
 ghost use Prim.Native.Nat.{ℕ};
-ghost use Rattle.listing.specs.Words.{code-word, line-word, place-word, position-word, turn-word};
+ghost use Rattle.words.specs.Words.{code-word, consent-word, line-word, place-word, position-word, station-word, turn-word};
 use events::field::Code;
+use events::field::Consent;
 use events::field::Direction;
 use events::field::Place;
 use events::field::Position;
+use events::field::Station;
 use events::field::Turn;
 
 // A value that a listing tells by a word.
@@ -15,6 +17,28 @@ pub trait Worded {
 
     fn word(self) -> &'static str
         ensures { λ r. ⌜ now r ≡ spelled self ⌝ };
+}
+
+pub impl Worded for Station as StationWorded {
+    ghost spelled = { station-word };
+
+    fn word(self) -> &'static str {
+        match self {
+            Station::Zero => "0",
+            Station::One => "1",
+        }
+    }
+}
+
+pub impl Worded for Consent as ConsentWorded {
+    ghost spelled = { consent-word };
+
+    fn word(self) -> &'static str {
+        match self {
+            Consent::Withheld => "0",
+            Consent::Given => "1",
+        }
+    }
 }
 
 pub impl Worded for Direction as DirectionWorded {

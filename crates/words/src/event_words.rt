@@ -1,11 +1,13 @@
 // What an event says, in words.
 ghost use Rattle.std.specs.Written.{Prints};
 ghost use Rattle.std.specs.declared.option.Option.the-variants.{Some};
-ghost use Rattle.listing.specs.Words.{control-words, event-words};
+ghost use Rattle.words.specs.Words.{control-words, event-words};
 use crate::words::CodeWorded;
+use crate::words::ConsentWorded;
 use crate::words::DirectionWorded;
 use crate::words::PlaceWorded;
 use crate::words::PositionWorded;
+use crate::words::StationWorded;
 use crate::words::TurnWorded;
 use crate::words::Worded;
 use events::event::Event;
@@ -15,9 +17,6 @@ use events::field::Direction;
 use events::field::Position;
 use events::field::Station;
 use events::field::Turn;
-use events::numbered::ConsentNumbered;
-use events::numbered::Numbered;
-use events::numbered::StationNumbered;
 use std::fmt;
 
 // Its kind, and then each field after its name.
@@ -33,7 +32,7 @@ fn send<W: fmt::Write>(
 ) -> fmt::Result
     ensures { λ r. ⌜ Prints took (now (f .entry)) r (event-words (Event.Send line station code turn)) (now (f .exit)) ⌝ }
 {
-    let station = station.number();
+    let station = station.word();
     let (line, code, turn) = (line.word(), code.word(), turn.word());
     write!(
         f,
@@ -49,7 +48,7 @@ fn acknowledge<W: fmt::Write>(
 ) -> fmt::Result
     ensures { λ r. ⌜ Prints took (now (f .entry)) r (event-words (Event.Acknowledge station consent turn)) (now (f .exit)) ⌝ }
 {
-    let (station, consent) = (station.number(), consent.number());
+    let (station, consent) = (station.word(), consent.word());
     let turn = turn.word();
     write!(
         f,
@@ -75,8 +74,8 @@ pub impl fmt::Display for EventWords as EventWordsDisplay {
 
     fn fmt<W: fmt::Write>(&self, f: &mut fmt::Formatter<W>) -> fmt::Result {
         match self.0 {
-            Event::Call { station } => write!(f, "call station {}", station.number()),
-            Event::Answer { station } => write!(f, "answer station {}", station.number()),
+            Event::Call { station } => write!(f, "call station {}", station.word()),
+            Event::Answer { station } => write!(f, "answer station {}", station.word()),
             Event::Send {
                 line,
                 station,
@@ -88,7 +87,7 @@ pub impl fmt::Display for EventWords as EventWordsDisplay {
                 consent,
                 turn,
             } => acknowledge(f, station, consent, turn),
-            Event::Error { station } => write!(f, "error station {}", station.number()),
+            Event::Error { station } => write!(f, "error station {}", station.word()),
             Event::StopControl { line, position } => control(f, "stop-control", line, position),
             Event::HomeControl { line, position } => control(f, "home-control", line, position),
             Event::Enters { line, axles } => write!(f, "enters line {} axles {axles}", line.word()),
@@ -100,11 +99,11 @@ pub impl fmt::Display for EventWords as EventWordsDisplay {
             }
             Event::Fails { line } => write!(f, "fails line {}", line.word()),
             Event::Reset { line, station } => {
-                let (line, station) = (line.word(), station.number());
+                let (line, station) = (line.word(), station.word());
                 write!(f, "reset line {line} station {station}")
             }
             Event::Resume { line, station } => {
-                let (line, station) = (line.word(), station.number());
+                let (line, station) = (line.word(), station.word());
                 write!(f, "resume line {line} station {station}")
             }
             Event::Roll { line, track } => write!(f, "roll line {} track {track}", line.word()),

@@ -3,8 +3,8 @@ use mathlib.Core.List.{List}
 use Prim.Native.Nat.{ℕ}
 use Rattle.std.specs.Written.{Put}
 use Rattle.std.specs.declared.fmt.Formatter.{Formatter}
-use Rattle.listing.specs.Words.{event-words}
-use Rattle.listing.proofs.event_words.EventWordsDisplay.fmt.Needs as need
+use Rattle.words.specs.Words.{event-words}
+use Rattle.words.proofs.event_words.EventWordsDisplay.fmt.Needs as need
 
 same-text : {W : Type 0} {took : W → List ℕ → W → Type 0} {f h : Formatter W} {xs ys : List ℕ} → Put took f xs h → xs ≡ ys → Put took f ys h
 same-text {took = took} {f = f} {h = h} put e = subst (λ (l : List ℕ). Put took f l h) e put

@@ -8,6 +8,7 @@ use Rattle.events.specs.declared.event.Event.the-variants as event
 use Rattle.events.specs.declared.field.Code.{Code}
 use Rattle.events.specs.declared.field.Code.the-variants as code
 use Rattle.events.specs.declared.field.Consent.{Consent}
+use Rattle.events.specs.declared.field.Consent.the-variants as consent
 use Rattle.events.specs.declared.field.Direction.{Direction}
 use Rattle.events.specs.declared.field.Direction.the-variants as direction
 use Rattle.events.specs.declared.field.Place.{Place}
@@ -15,9 +16,9 @@ use Rattle.events.specs.declared.field.Place.the-variants as place
 use Rattle.events.specs.declared.field.Position.{Position}
 use Rattle.events.specs.declared.field.Position.the-variants as position
 use Rattle.events.specs.declared.field.Station.{Station}
+use Rattle.events.specs.declared.field.Station.the-variants as station
 use Rattle.events.specs.declared.field.Turn.{Turn}
 use Rattle.events.specs.declared.field.Turn.the-variants as turn
-use Rattle.events.specs.Fields.{consent-number, station-number}
 
 -- One text after another, from left to right.
 
@@ -25,13 +26,15 @@ infixr 65 _then_
 abbrev pub _then_ : List ℕ → List ℕ → List ℕ
 xs then ys = xs ++ ys
 
--- A field: its number in digits, or its word.
+-- The word of each value of a field.
 
-abbrev pub station-digit : Station → List ℕ
-station-digit a = decimal (station-number a)
+abbrev pub station-word : Station → List ℕ
+station-word station.Zero = codes "0"
+station-word station.One = codes "1"
 
-abbrev pub consent-digit : Consent → List ℕ
-consent-digit y = decimal (consent-number y)
+abbrev pub consent-word : Consent → List ℕ
+consent-word consent.Withheld = codes "0"
+consent-word consent.Given = codes "1"
 
 abbrev pub line-word : Direction → List ℕ
 line-word direction.Up = codes "up"
@@ -66,11 +69,11 @@ abbrev pub control-words : List ℕ → Direction → Position → List ℕ
 control-words name l p = name then codes " line " then line-word l then codes " position " then position-word p
 
 abbrev pub event-words : Event → List ℕ
-event-words (event.Call a) = codes "call station " then station-digit a
-event-words (event.Answer a) = codes "answer station " then station-digit a
-event-words (event.Send l a c t) = codes "send line " then line-word l then codes " station " then station-digit a then codes " code " then code-word c then codes " turn " then turn-word t
-event-words (event.Acknowledge a y t) = codes "acknowledge station " then station-digit a then codes " consent " then consent-digit y then codes " turn " then turn-word t
-event-words (event.Error a) = codes "error station " then station-digit a
+event-words (event.Call a) = codes "call station " then station-word a
+event-words (event.Answer a) = codes "answer station " then station-word a
+event-words (event.Send l a c t) = codes "send line " then line-word l then codes " station " then station-word a then codes " code " then code-word c then codes " turn " then turn-word t
+event-words (event.Acknowledge a y t) = codes "acknowledge station " then station-word a then codes " consent " then consent-word y then codes " turn " then turn-word t
+event-words (event.Error a) = codes "error station " then station-word a
 event-words (event.StopControl l p) = control-words (codes "stop-control") l p
 event-words (event.HomeControl l p) = control-words (codes "home-control") l p
 event-words (event.Enters l k) = codes "enters line " then line-word l then codes " axles " then decimal k
@@ -78,6 +81,6 @@ event-words (event.Leave l k) = codes "leave line " then line-word l then codes 
 event-words (event.TrolleyStarts l) = codes "trolley-starts line " then line-word l
 event-words (event.TrolleyEnds l e) = codes "trolley-ends line " then line-word l then codes " place " then place-word e
 event-words (event.Fails l) = codes "fails line " then line-word l
-event-words (event.Reset l a) = codes "reset line " then line-word l then codes " station " then station-digit a
-event-words (event.Resume l a) = codes "resume line " then line-word l then codes " station " then station-digit a
+event-words (event.Reset l a) = codes "reset line " then line-word l then codes " station " then station-word a
+event-words (event.Resume l a) = codes "resume line " then line-word l then codes " station " then station-word a
 event-words (event.Roll l k) = codes "roll line " then line-word l then codes " track " then decimal k
