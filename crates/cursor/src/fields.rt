@@ -1,6 +1,6 @@
 // The fields of each kind of event, read in the order of their layout.
 ghost use Rattle.cursor.specs.Cursors.{Goes};
-ghost use Rattle.events.specs.Fields.{axle-counts, tracks};
+ghost use Rattle.events.specs.Fields.{axle-counts};
 ghost use Rattle.events.specs.declared.field.Kind.the-variants as kind;
 ghost use Rattle.format.specs.Layouts.{field-at, fields-of, layout-at};
 use super::Cursor;
@@ -53,12 +53,6 @@ impl Cursor<'_> {
         ensures { λ r. ⌜ Goes (field-at axle-counts) (now (self .entry)) (now (self .exit)) r ⌝ }
     {
         self.from_to(1, 250)
-    }
-
-    fn track(&mut self) -> Result<u16, ReadFault>
-        ensures { λ r. ⌜ Goes (field-at tracks) (now (self .entry)) (now (self .exit)) r ⌝ }
-    {
-        self.from_to(0, 6)
     }
 
     fn send(&mut self) -> Result<Event, ReadFault>
@@ -149,7 +143,7 @@ impl Cursor<'_> {
         ensures { λ r. ⌜ Goes (layout-at (fields-of kind.Roll)) (now (self .entry)) (now (self .exit)) r ⌝ }
     {
         let line = self.value()?;
-        let track = self.track()?;
+        let track = self.from_to(0, 6)?;
         Ok(Event::Roll { line, track })
     }
 }

@@ -3,7 +3,6 @@ ghost use Rattle.cursor.specs.Cursors.{Goes, Moves, Opens};
 ghost use Rattle.events.specs.Fields.{from-to};
 ghost use Rattle.format.specs.Layouts.{field-at, next-at};
 ghost use Rattle.format.specs.Numbers.{number-at};
-ghost use Rattle.format.specs.Openings.{count-at};
 
 mod fields;
 mod number;
@@ -14,15 +13,10 @@ use events::numbered::KindNumbered;
 use events::numbered::Numbered;
 use format::fault::ReadFault;
 use format::fault::Reason;
-use format::fault::RunFault;
-use format::fault::RunFaultFromRead;
 use number::number_in;
 
 // The longest sheet, in bytes.
 pub const LONGEST: usize = 65536;
-
-// The most sections of a bench.
-pub const MOST_SECTIONS: u16 = 8;
 
 #[derive(Drop)]
 pub struct Cursor<'a> {
@@ -61,19 +55,7 @@ impl<'a> Cursor<'a> {
         Ok(value)
     }
 
-    // The section count, from 1 to 8.
-    pub fn sections(&mut self) -> Result<u16, RunFault>
-        ensures { λ r. ⌜ Moves count-at (now (self .entry)) (now (self .exit)) r ⌝ }
-    {
-        let start = self.at;
-        let count = self.number()?;
-        if count < 1 || count > MOST_SECTIONS {
-            self.at = start;
-            return Err(RunFault::Sections);
-        }
-        Ok(count)
-    }
-
+    // The value that the next number stands for.
     fn value<T: Numbered>(&mut self) -> Result<T, ReadFault>
         ensures { λ r. ⌜ Goes (field-at (T·Numbered .field)) (now (self .entry)) (now (self .exit)) r ⌝ }
     {
@@ -85,6 +67,7 @@ impl<'a> Cursor<'a> {
         })
     }
 
+    // The next number, which has to lie within these bounds.
     fn from_to(&mut self, least: u16, most: u16) -> Result<u16, ReadFault>
         ensures { λ r. ⌜ Goes (field-at (from-to least most)) (now (self .entry)) (now (self .exit)) r ⌝ }
     {

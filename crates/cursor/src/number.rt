@@ -25,6 +25,7 @@ pub(crate) fn number_in(start: usize, bytes: &[u8]) -> Result<(u16, usize), Read
     }
 }
 
+// The same after a first byte whose seven bits are `high`.
 fn after_one(start: usize, high: u16, rest: &[u8]) -> Result<(u16, usize), ReadFault>
     requires fits { ⌜ start + 1 + length (now rest) < 2 ^ 64 ⌝ }
     requires byte { ⌜ high < 128 ⌝ }
@@ -40,6 +41,7 @@ fn after_one(start: usize, high: u16, rest: &[u8]) -> Result<(u16, usize), ReadF
     }
 }
 
+// The same after two bytes whose fourteen bits are `high`.
 fn after_two(start: usize, high: u16, rest: &[u8]) -> Result<(u16, usize), ReadFault>
     requires fits { ⌜ start + 2 + length (now rest) < 2 ^ 64 ⌝ }
     requires bytes { ⌜ high < 16384 ⌝ }

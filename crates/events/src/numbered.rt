@@ -2,8 +2,7 @@
 ghost use mathlib.Core.Path.{_≡_};
 ghost use Prim.Native.Nat.{ℕ};
 ghost use Rattle.std.specs.declared.option.Option.the-variants.{Some};
-ghost use Rattle.events.specs.Fields.{Field};
-ghost use Rattle.events.specs.Fields.{stations, directions, codes, turns, consents, positions, places, kinds};
+ghost use Rattle.events.specs.Fields.{Field, codes, consents, directions, kinds, places, positions, stations, turns};
 use crate::field::Code;
 use crate::field::Consent;
 use crate::field::Direction;
@@ -13,6 +12,7 @@ use crate::field::Position;
 use crate::field::Station;
 use crate::field::Turn;
 
+// One match for each enum is its table in the code; `field` is its table in the specs.
 pub trait Numbered: Sized {
     ghost field: { Field Self };
 

@@ -1,5 +1,5 @@
 // The text that tells what a sheet holds.
-pub mod ending;
-pub mod event_line;
-pub mod sections_line;
+mod ending;
+mod event_line;
+mod sections_line;
 pub mod text;

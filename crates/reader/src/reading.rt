@@ -3,6 +3,8 @@ ghost use mathlib.Core.Path.{_≡_};
 ghost use mathlib.Core.List.{[]};
 ghost use Rattle.std.specs.Of.Vec.{vec-items};
 ghost use Rattle.std.specs.declared.option.Option.the-variants.{None};
+ghost use Rattle.cursor.specs.Cursors.{Goes};
+ghost use Rattle.format.specs.Openings.{count-at};
 ghost use Rattle.format.specs.Sheets.{Answers-exactly, One-reading, Told};
 use cursor::Cursor;
 use events::event::LocatedEvent;
@@ -10,6 +12,20 @@ use format::fault::RunFault;
 use format::fault::RunFaultFromRead;
 use format::fault::RunFaultFromRefused;
 use std::alloc::Global;
+
+// The most sections of a bench.
+const MOST_SECTIONS: u16 = 8;
+
+// The section count, from 1 to 8.
+fn sections(cursor: &mut Cursor) -> Result<u16, RunFault>
+    ensures { λ r. ⌜ Goes count-at (now (cursor .entry)) (now (cursor .exit)) r ⌝ }
+{
+    let count = cursor.number()?;
+    if count < 1 || count > MOST_SECTIONS {
+        return Err(RunFault::Sections);
+    }
+    Ok(count)
+}
 
 // The section count, once it is read, and the events so far, each with the offset of its first byte.
 #[derive(Drop)]
@@ -44,7 +60,7 @@ impl Reading {
     {
         self.forget();
         let mut cursor = Cursor::open(sheet)?;
-        self.sections = Some(cursor.sections()?);
+        self.sections = Some(sections(&mut cursor)?);
         while let Some(event) = cursor.event()? {
             self.events.push(event)?;
         }

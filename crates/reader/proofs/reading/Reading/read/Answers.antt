@@ -42,7 +42,7 @@ returns-in-Break-sections c =
     let p = err-from-errBy (c .from-residual-in-Break-sections .result) (c .from-residual-in-Break-sections .ensures .1) in
     let s = c .args .sheet .now in
     let bytes : Bytes s = search needs in
-    let told = told-opening s _ bytes (opened (need.at·returns-in-Break-sections c .In-Continue-cursor) _ (c .in-Break-sections .ensures tt .answer .0)) in
+    let told = told-opening s _ bytes (opened (need.at·returns-in-Break-sections c .In-Continue-cursor) _ (c .in-Break-sections .ensures tt .answer)) in
     rw (p .1, p .2, c .forget .ensures .0, c .forget .ensures .1) (record { told = told; exactly = answers-exactly s _ _ _ told; one = one-reading s })
 
 pub loop-event-holds : need.loop-event-holds
