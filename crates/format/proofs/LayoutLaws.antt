@@ -47,11 +47,6 @@ Bars (done y) ns m = ⊥
 Bars (field f k) [] m = f .value m ≡ None
 Bars (field {A} f k) (n ∷ ns) m = (a : A) × Means f n a × Bars (k a) ns m
 
-pub bars-wants : {T : Type 0} (l : Layout T) (ns : List ℕ) (m : ℕ) → Bars l ns m → Wants l ns
-bars-wants (done y) ns m b = absurd b
-bars-wants (field f k) [] m b = tt
-bars-wants (field f k) (n ∷ ns) m b = (b .0, b .1, bars-wants (k (b .0)) ns m (b .2))
-
 same-value : {A : Type 0} {f : Field A} {n : ℕ} {a b : A} → Means f n a → Means f n b → a ≡ b
 same-value {A} {f} {n} {a} {b} m k = let e : _≡_ {A = Option A} (Some a) (Some b) = sym (m .value) ∙ k .value in cc
 

@@ -8,7 +8,6 @@ use native.Mathlib.Omega.{arith}
 use lib.ListN.{length, drop}
 use Rattle.std.proofs.shelf.Lists.{length-append, length-drop, drop-drop, drop-at, drop-all}
 use Rattle.std.proofs.shelf.Tests.{cases-lt}
-use Rattle.std.specs.Joined.{joined}
 use Rattle.format.specs.Sheets.{Stands}
 
 pub stands-none : (s : List ℕ) (p : ℕ) → Stands s p p []
@@ -52,7 +51,3 @@ pub stands-within : {s : List ℕ} {p q : ℕ} {xs : List ℕ} → p ≤ length 
 stands-within {s} {p} {q} {xs} h a =
     let e = simp length-append at (ap length (a .bytes)) in
     omega (arith, e, a .after, length-drop p s, length-drop q s)
-
-pub joined-append : {X : Type 0} (f : X → List ℕ) (xs ys : List X) → joined f (xs ++ ys) ≡ joined f xs ++ joined f ys
-joined-append f [] ys = refl
-joined-append f (x ∷ xs) ys = ap (λ l. f x ++ l) (joined-append f xs ys) ∙ sym (append-assoc (f x) (joined f xs) (joined f ys))
