@@ -1,4 +1,6 @@
 // What an event is answered with, and how the first need that fails becomes a refusal.
+#![tactic(auto)]
+
 ghost use Rattle.std.specs.Prelude.{◌≡◌};
 ghost use Rattle.answer.specs.Answers.{answer_number, checked, refusal_number};
 

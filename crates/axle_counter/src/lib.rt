@@ -1,5 +1,7 @@
 // A detector that keeps a total of the axles that went in and one of those that came out.
 // `detects` has its calls, and what each makes of both totals.
+#![tactic(auto)]
+
 ghost use Rattle.std.specs.Prelude.{◌≡◌, ◌<◌, ◌≤◌};
 ghost use Rattle.axle_counter.specs.Totals.{round, axles_between};
 ghost use Rattle.detector.specs.Meaning.{limit};

@@ -1,5 +1,7 @@
 // Detectors held by value in nested pairs, each told by its number. Past the end of a bank nothing
 // happens, and nothing is read.
+#![tactic(auto)]
+
 ghost use Rattle.std.specs.Prelude.{◌≡◌, ℕ, ◌*◌, List, length, replicate};
 ghost use Rattle.bank.specs.Banks.{single, paired};
 ghost use Rattle.bank.specs.Halves.{first_acted, second_acted, read_either};

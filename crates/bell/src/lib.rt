@@ -1,4 +1,6 @@
 // The bell between the two stations of a section: it takes each event in turn, and says where it is not ready.
+#![tactic(auto)]
+
 ghost use Rattle.std.specs.Prelude.{◌≡◌};
 ghost use Rattle.answer.specs.Answers.{checked, unless_refused};
 ghost use Rattle.bell.specs.Bells.{bell_after, bell_needs};

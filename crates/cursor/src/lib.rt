@@ -1,4 +1,6 @@
 // A place in a lent sheet, from which numbers and events are read.
+#![tactic(auto)]
+
 ghost use Rattle.cursor.specs.Cursors.{Goes, Moves, Opens};
 ghost use Rattle.events.specs.Fields.{from_to};
 ghost use Rattle.format.specs.Layouts.{field_at, next_at};

@@ -71,4 +71,4 @@ reading_is x y = eqb (reading_number x) (reading_number y)
 
 -- clear is the only reading that passes
 abbrev pub reads_clear : Meaning → Bool
-reads_clear m = reading_is Clear (reading_of m)
+reads_clear m = eqb (reading_number (reading_of m)) (reading_number Clear)

@@ -1,5 +1,7 @@
 // What an occupancy detector is. Whatever the kind, its calls are known by what they make of its
 // meaning; each kind is a crate of its own.
+#![tactic(auto)]
+
 ghost use Rattle.std.specs.Prelude.{◌≡◌, ◌≤◌};
 ghost use Rattle.detector.specs.Meaning.{Meaning, limit, fresh, reading_of};
 ghost use Rattle.detector.specs.Meaning.{counted_in, counted_out, failing, restored, rolled};

@@ -1,3 +1,5 @@
 // What reading a sheet answers: the faults, and the laws of the format.
+#![tactic(auto)]
+
 pub mod fault;
 pub mod laws;

@@ -1,4 +1,6 @@
 // One line: its record, and every way in which an event changes it.
+#![tactic(auto)]
+
 mod codes;
 pub mod line;
 mod permission;

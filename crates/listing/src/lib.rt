@@ -1,4 +1,6 @@
 // The text that tells what a sheet holds.
+#![tactic(auto)]
+
 mod ending;
 mod event_line;
 mod sections_line;

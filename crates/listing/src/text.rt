@@ -9,10 +9,9 @@ use crate::sections_line::SectionsLine;
 use events::event::LocatedEvent;
 use reader::reading::Reading;
 use std::alloc::{AllocError, Global};
-use std::fmt;
 
 // The first line, where the section count was read.
-fn write_opening(text: &mut String, sections: Option<u16>) -> fmt::Result
+fn write_opening(text: &mut String, sections: Option<u16>) -> Result<(), AllocError>
     ensures { OnOk result (string_bytes text.new ≡ string_bytes text.old ++ opening_lines sections) }
 {
     let Some(count) = sections else {
@@ -23,7 +22,7 @@ fn write_opening(text: &mut String, sections: Option<u16>) -> fmt::Result
 }
 
 // The line of one event.
-fn write_event(text: &mut String, index: usize, located: LocatedEvent) -> fmt::Result
+fn write_event(text: &mut String, index: usize, located: LocatedEvent) -> Result<(), AllocError>
     ensures { OnOk result (string_bytes text.new ≡ string_bytes text.old ++ ended (event_text index located)) }
 {
     let line = EventLine { index, located };
@@ -31,7 +30,7 @@ fn write_event(text: &mut String, index: usize, located: LocatedEvent) -> fmt::R
 }
 
 // A line for each event.
-fn write_events(text: &mut String, events: &[LocatedEvent]) -> fmt::Result
+fn write_events(text: &mut String, events: &[LocatedEvent]) -> Result<(), AllocError>
     ensures { OnOk result (string_bytes text.new ≡ string_bytes text.old ++ event_lines 0 events.now) }
 {
     for (index, located) in events.iter().enumerate() {
@@ -41,7 +40,7 @@ fn write_events(text: &mut String, events: &[LocatedEvent]) -> fmt::Result
 }
 
 // Every line.
-fn write_listing(text: &mut String, reading: &Reading, ending: Ending) -> fmt::Result
+fn write_listing(text: &mut String, reading: &Reading, ending: Ending) -> Result<(), AllocError>
     ensures { OnOk result (string_bytes text.new ≡ string_bytes text.old ++ listing_text reading.now.sections reading.now.events.items ending) }
 {
     write_opening(text, reading.sections)?;
@@ -60,8 +59,6 @@ pub fn listing(heap: Global, sheet: &[u8]) -> Result<String, AllocError>
         return Err(AllocError);
     };
     let mut text = String::new(heap);
-    match write_listing(&mut text, &reading, ending) {
-        Ok(()) => Ok(text),
-        Err(_) => Err(AllocError),
-    }
+    write_listing(&mut text, &reading, ending)?;
+    Ok(text)
 }

@@ -1,4 +1,6 @@
 // One section: a bell and two lines, and how they answer an event by what their detectors read.
+#![tactic(auto)]
+
 pub mod face;
 pub mod instruments;
 pub mod section;

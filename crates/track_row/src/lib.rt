@@ -1,5 +1,7 @@
 // A detector that keeps the axles on eight tracks. They come in on track 0 and go out from the
 // highest one. `detects` has its calls, and what each makes of every track.
+#![tactic(auto)]
+
 ghost use Rattle.std.specs.Prelude.{◌≡◌, ◌+◌, ◌-◌, ◌<◌, ◌≤◌, sum, slice_index, slice_set};
 ghost use Rattle.detector.specs.Meaning.{limit};
 ghost use Rattle.track_row.specs.Tracks.{track_count, with_more, taken};

@@ -19,7 +19,7 @@ fn send<W: fmt::Write>(
     code: Code,
     turn: Turn,
 ) -> fmt::Result
-    ensures { WritesOnOk write_str_gives f.old result (event_words (Event.Send line station code turn)) f.new }
+    ensures { WritesOnOk W.write_str_gives f.old result (event_words (Event.Send line station code turn)) f.new }
 {
     let station = station.word();
     let (line, code, turn) = (line.word(), code.word(), turn.word());
@@ -35,7 +35,7 @@ fn acknowledge<W: fmt::Write>(
     consent: Consent,
     turn: Turn,
 ) -> fmt::Result
-    ensures { WritesOnOk write_str_gives f.old result (event_words (Event.Acknowledge station consent turn)) f.new }
+    ensures { WritesOnOk W.write_str_gives f.old result (event_words (Event.Acknowledge station consent turn)) f.new }
 {
     let (station, consent) = (station.word(), consent.word());
     let turn = turn.word();
@@ -52,7 +52,7 @@ fn control<W: fmt::Write>(
     line: Direction,
     position: Position,
 ) -> fmt::Result
-    ensures { WritesOnOk write_str_gives f.old result (control_words name.now line position) f.new }
+    ensures { WritesOnOk W.write_str_gives f.old result (control_words name.now line position) f.new }
 {
     let (line, position) = (line.word(), position.word());
     write!(f, "{name} line {line} position {position}")

@@ -1,3 +1,5 @@
 // The words in which an event is told.
+#![tactic(auto)]
+
 pub mod event_words;
 mod words;

@@ -1,4 +1,6 @@
 // The worked cases of the rules as one statement, and examples that are run.
+#![tactic(auto)]
+
 ghost use Rattle.worked.specs.Cases.{WorkedCases};
 
 #[cfg(test)]

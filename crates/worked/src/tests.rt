@@ -1,13 +1,9 @@
-// Examples of sheets, of detectors and of the bench, run as well as proved.
+// Examples of sheets and of detectors, run as well as proved.
 use axle_counter::AxleCounter;
-use block::bench::Bench;
-use block::run::run;
 use detector::{Detector, Reading as Shown};
-use events::event::{Event, LocatedEvent, SectionEvent};
-use events::field::Direction;
+use events::event::{Event, LocatedEvent};
 use format::fault::RunFault;
 use reader::reading::Reading;
-use std::test::Fail;
 use track_row::TrackRow;
 
 fn is_call(located: &LocatedEvent) -> bool {
@@ -77,48 +73,4 @@ fn every_detector_shows_the_same(rt: HostRuntime) {
     assert!(rt; shows_each(through(&mut row)));
     counter.reset();
     assert!(rt; matches!(counter.read(), Shown::Clear));
-}
-
-// An event that no sheet can hold: the axles of a train are 1 to 250.
-fn train_of(axles: u16, section: u16) -> SectionEvent {
-    SectionEvent {
-        section,
-        event: Event::Enters {
-            line: Direction::Up,
-            axles,
-        },
-    }
-}
-
-// What a sheet cannot hold is answered 3, before the section is looked for, and changes nothing.
-#[test]
-fn an_event_outside_its_values_is_refused(rt: HostRuntime) -> Result<(), Fail> {
-    let mut bench = match Bench::<AxleCounter>::fresh(rt.alloc(), 8) {
-        Ok(bench) => bench,
-        Err(_) => return Err(Fail::new("no bench of eight sections")),
-    };
-    assert!(rt; bench.apply(train_of(0, 7)).number() == 3);
-    assert!(rt; bench.apply(train_of(251, 8)).number() == 3);
-    assert!(rt; bench.apply(train_of(250, 8)).number() == 4);
-    assert!(rt; bench.face(8).is_none());
-    assert!(rt; matches!(bench.face(7), Some(face) if matches!(face.up.reading, Shown::Clear)));
-    assert!(rt; bench.apply(train_of(250, 7)).number() == 90);
-    assert!(rt; matches!(bench.face(7), Some(face) if matches!(face.up.reading, Shown::Occupied)));
-    Ok(())
-}
-
-// Eight sections pass, nine do not.
-#[test]
-fn a_bench_has_one_to_eight_sections(rt: HostRuntime) -> Result<(), Fail> {
-    let nine = run::<AxleCounter>(rt.alloc(), 9, &[]);
-    assert!(rt; matches!(nine, Err(RunFault::Sections)));
-    let none = run::<AxleCounter>(rt.alloc(), 0, &[]);
-    assert!(rt; matches!(none, Err(RunFault::Sections)));
-    match run::<AxleCounter>(rt.alloc(), 8, &[train_of(2, 9)]) {
-        Ok(completed) => {
-            assert!(rt; completed.entries.len() == 1);
-            Ok(())
-        },
-        Err(_) => Err(Fail::new("no run on eight sections")),
-    }
 }

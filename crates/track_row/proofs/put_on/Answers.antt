@@ -2,8 +2,8 @@ use Rattle.std.proofs.Common.{◌+◌, ◌<◌, length, get_or, refl, arith}
 use Rattle.std.proofs.lemmas.List.Sums.{sum_by-set, get_or-le-sum_by}
 use Rattle.track_row.proofs.put_on.Goals as goal
 
-pub overflow-add-tracks : goal.overflow-add-tracks
-overflow-add-tracks c =
+pub overflow_add-tracks : goal.overflow_add-tracks
+overflow_add-tracks c =
     let xs = c.args.tracks.now in
     let within : c.args.at < length xs = omega arith in
     omega (arith, get_or-le-sum_by (λ x. x) xs c.args.at 0 within)

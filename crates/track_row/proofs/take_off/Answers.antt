@@ -9,7 +9,7 @@ loop-turn-init c = taking_none track_count c.args.axles c.args.tracks.now c.told
 pub loop-turn-preserved : goal.loop-turn-preserved
 loop-turn-preserved c =
     let turn = c.loop-turn.turn in
-    let t = c.giving-in-t.result in
+    let t = c.giving_in-t.result in
     let here : track_count - turn ≡ t + 1 = omega arith in
     let after : track_count - (turn + 1) ≡ t = omega arith in
     let off = c.min-off in

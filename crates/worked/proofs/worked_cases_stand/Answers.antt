@@ -15,10 +15,4 @@ returns c = record {
   most_counted = refl;
   too_many_counted = refl;
   none_to_count = refl;
-  train_cancelled_right = refl;
-  trolley_cancelled_left = refl;
-  reversed_while_cancelled = refl;
-  axle_left_behind = refl;
-  reset_under_a_train = refl;
-  resumed_by_one_station = refl;
 }

@@ -3,4 +3,4 @@ use Rattle.section.specs.Sections.{fresh_section}
 use Rattle.block.proofs.run.fresh_sections.Goals as goal
 
 pub loop-preserved : goal.loop-preserved
-loop-preserved c = cc (c.in-ok-push.ensures.items, c.fresh.ensures, replicate_more c.loop.counter fresh_section, c.loop.invariant)
+loop-preserved c = cc (c.in_ok-push.ensures.items, c.fresh.ensures, replicate_more c.loop.counter fresh_section, c.loop.invariant)

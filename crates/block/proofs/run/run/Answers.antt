@@ -11,12 +11,12 @@ loop-event-preserved g c =
     let state = state_of g.D.Detector.meaning in
     one_more (fresh_bench c.args.sections) (state c.loop-event.bench) (state c.enter.new.self) c.args.events.now c.loop-event.event-index _
     (vec_items c.loop-event.entries) (vec_items c.push.new.self) c.enter.result
-    c.loop-event-test.true c.loop-event.invariant c.enter.ensures.answer c.enter.ensures.face c.enter.ensures.bench c.in-ok-push.ensures.items
+    c.loop-event-test.true c.loop-event.invariant c.enter.ensures.answer c.enter.ensures.face c.enter.ensures.bench c.in_ok-push.ensures.items
 
 pub returns : goal.returns
 returns g c =
     let far = c.loop-event.invariant in (
-      c.in-ok-bench.ensures.0,
+      c.in_ok-bench.ensures.0,
       run_of c.args.sections far.0 (state_of g.D.Detector.meaning c.loop-event.bench) c.args.events.now (vec_items c.loop-event.entries)
           (far.1 ∙ take_all c.loop-event.event-index c.args.events.now c.loop-event-test.false) far.2 far.3,
     )

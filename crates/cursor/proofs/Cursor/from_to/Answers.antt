@@ -2,9 +2,9 @@ use Rattle.std.proofs.Common.{rules}
 use Rattle.format.specs.Layouts.{field_at}
 use Rattle.cursor.proofs.Cursor.from_to.Goals as goal
 
-pub returns-in-err-number : goal.returns-in-err-number
+pub returns-in_err-number : goal.returns-in_err-number
 unfolding field_at
-returns-in-err-number c = search rules
+returns-in_err-number c = search rules
 
 pub returns-then-number-least : goal.returns-then-number-least
 unfolding field_at

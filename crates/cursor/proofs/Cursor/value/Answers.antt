@@ -2,9 +2,9 @@ use Rattle.std.proofs.Common.{rules}
 use Rattle.format.specs.Layouts.{field_at}
 use Rattle.cursor.proofs.Cursor.value.Goals as goal
 
-pub returns-in-err-number : goal.returns-in-err-number
+pub returns-in_err-number : goal.returns-in_err-number
 unfolding field_at
-returns-in-err-number g c = search rules
+returns-in_err-number g c = search rules
 
 pub returns : goal.returns
 unfolding field_at

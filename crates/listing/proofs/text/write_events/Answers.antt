@@ -14,7 +14,7 @@ one_line_more before after whole i xs x h e inv =
     ∙ ap (λ l. before ++ l) (sym (at_drop_more (event_lines i) xs i x h)) ∙ inv
 
 pub loop-index-preserved : goal.loop-index-preserved
-loop-index-preserved c = one_line_more _ _ _ _ c.args.events.now _ c.loop-index-test.true c.in-ok-write-event.ensures c.loop-index.invariant
+loop-index-preserved c = one_line_more _ _ _ _ c.args.events.now _ c.loop-index-test.true c.in_ok-write_event.ensures c.loop-index.invariant
 
 pub returns : goal.returns
 returns c =

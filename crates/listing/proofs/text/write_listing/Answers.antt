@@ -10,11 +10,11 @@ pub returns : goal.returns
 returns c =
     let reading = c.args.reading.now in
     let text = string_bytes c.args.text.now in
-    let one = string_bytes c.write-opening.new.text in
-    let two = string_bytes c.write-events.new.text in
+    let one = string_bytes c.write_opening.new.text in
+    let two = string_bytes c.write_events.new.text in
     let three = string_bytes c.writeln.new.self in
     let opening = opening_lines reading.sections in
     let events = event_lines 0 (vec_items reading.events) in
     let last = ended (ending_text c.args.ending) in
-    let events-written = rw c.as-slice.ensures.value at c.in-ok-write-events.ensures in
-    three_parts text one two three opening events last c.in-ok-write-opening.ensures events-written c.in-ok-writeln.ensures.bytes
+    let events_written = rw c.as_slice.ensures.value at c.in_ok-write_events.ensures in
+    three_parts text one two three opening events last c.in_ok-write_opening.ensures events_written c.in_ok-writeln.ensures.bytes

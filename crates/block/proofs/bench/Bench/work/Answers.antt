@@ -10,15 +10,15 @@ use Rattle.section.specs.Instruments.{section_of}
 use Rattle.section.specs.States.{told}
 use Rattle.block.proofs.bench.Bench.work.Goals as goal
 
-pub returns-in-err-worked : goal.returns-in-err-worked
-returns-in-err-worked g c =
-    let p = err_from_is_err_and c.from-residual.result c.from-residual.ensures.1 in
+pub returns-in_err-worked : goal.returns-in_err-worked
+returns-in_err-worked g c =
+    let p = err_from_is_err_and c.from_residual.result c.from_residual.ensures.1 in
     let b = c.args.self.now in
     let at = c.args.at in
     let there : at < length b.sections.items = omega (arith, b.sections.ok.0) in
     let left =
     refused b.sections.items (sixteen g.D.Detector.meaning b.bank) at c.args.event (section_of c.instruments-instruments.result) c.readings.result c.answer.result
-    there c.instruments-instruments.ensures c.readings.ensures c.answer.ensures.answer c.in-err-worked.field-0.0 c.in-err-worked.was in
+    there c.instruments-instruments.ensures c.readings.ensures c.answer.ensures.answer c.in_err-worked.field-0.0 c.in_err-worked.was in
     record { answer = p.1 ∙ ap Err p.2 ∙ left.0; bench = left.1 }
 
 pub invariant-of-self-2 : goal.invariant-of-self-2
@@ -38,7 +38,7 @@ pub returns : goal.returns
 returns g c =
     let b = c.args.self.now in
     let at = c.args.at in
-    let done = c.in-ok-worked.worked in
+    let done = c.in_ok-worked.worked in
     let m = sixteen g.D.Detector.meaning in
     let there : at < length b.sections.items = omega (arith, b.sections.ok.0) in
     let room : 2 * at + 1 < length (m b.bank) = omega (arith, b.few, length_sixteen g.D.Detector.meaning b.bank) in
@@ -47,5 +47,5 @@ returns g c =
     worked b.sections.items (m b.bank) at c.args.event (section_of c.instruments-instruments.result) c.readings.result c.answer.result
     there c.instruments-instruments.ensures c.readings.ensures c.answer.ensures.answer
     done (section_of c.answer.new.self) c.into-section.result (m c.tell-2.new.bank) c.readings-2.result
-    c.in-ok-worked.was room c.answer.ensures.section tells c.readings-2.ensures (c.into-section.ensures.section ∙ c.settle.ensures) in
+    c.in_ok-worked.was room c.answer.ensures.section tells c.readings-2.ensures (c.into-section.ensures.section ∙ c.settle.ensures) in
     record { answer = made.0; bench = made.1 }

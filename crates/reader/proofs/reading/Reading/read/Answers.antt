@@ -9,80 +9,80 @@ use Rattle.format.specs.Sheets.{Told}
 use Rattle.format.proofs.Exactness.{answers_exactly, one_reading}
 use Rattle.format.proofs.Progress.{Progress, more, next_in, opening_long, opening_short, start, told_end, told_fault, told_memory, told_opening}
 use Rattle.reader.proofs.reading.Reading.read.Goals as goal
-use Rattle.reader.proofs.reading.Reading.read.Goals.{In-ok-cursor, In-ok-push}
+use Rattle.reader.proofs.reading.Reading.read.Goals.{In_ok-cursor, In_ok-push}
 
 -- what the count's call answers is what the sheet opens with
-opened : (c : In-ok-cursor) (r : Result (ℕ × ℕ) RunFault) → count_at c.in-ok-cursor.cursor.sheet.now c.in-ok-cursor.cursor.at ≡ r → opening c.args.sheet.now ≡ r
+opened : (c : In_ok-cursor) (r : Result (ℕ × ℕ) RunFault) → count_at c.in_ok-cursor.cursor.sheet.now c.in_ok-cursor.cursor.at ≡ r → opening c.args.sheet.now ≡ r
 opened c r e =
-    let o = c.in-ok-cursor.ensures in
+    let o = c.in_ok-cursor.ensures in
     opening_short c.args.sheet.now r o.0 ((λ i. count_at (sym o.1 i) (sym o.2 i)) ∙ e)
 
-pub returns-in-err-cursor : goal.returns-in-err-cursor
-returns-in-err-cursor c =
-    let p = err_from_is_err_and c.from-residual.result c.from-residual.ensures.1 in
+pub returns-in_err-cursor : goal.returns-in_err-cursor
+returns-in_err-cursor c =
+    let p = err_from_is_err_and c.from_residual.result c.from_residual.ensures.1 in
     let s = c.args.sheet.now in
-    let o = c.in-err-cursor.ensures in
+    let o = c.in_err-cursor.ensures in
     let bytes : Bytes s = search rules in
-    let told : Told s (Err (Read c.in-err-cursor.field-0.0)) None [] =
+    let told : Told s (Err (Read c.in_err-cursor.field-0.0)) None [] =
     told_opening s _ bytes (opening_long s o.0 ∙ ap (λ f. Err (Read f)) (sym o.1)) in
     rw (p.1, p.2, c.forget.ensures.0, c.forget.ensures.1) (record { told = told; exactly = answers_exactly s _ _ _ told; one = one_reading s })
 
-pub returns-in-err-sections : goal.returns-in-err-sections
-returns-in-err-sections c =
-    let p = err_from_is_err_and c.from-residual-in-err-sections.result c.from-residual-in-err-sections.ensures.1 in
+pub returns-in_err-sections : goal.returns-in_err-sections
+returns-in_err-sections c =
+    let p = err_from_is_err_and c.from_residual-in_err-sections.result c.from_residual-in_err-sections.ensures.1 in
     let s = c.args.sheet.now in
     let bytes : Bytes s = search rules in
-    let told = told_opening s _ bytes (opened (goal.at.returns-in-err-sections c).In-ok-cursor _ c.in-err-sections.ensures.answer) in
+    let told = told_opening s _ bytes (opened (goal.at.returns-in_err-sections c).In_ok-cursor _ c.in_err-sections.ensures.answer) in
     rw (p.1, p.2, c.forget.ensures.0, c.forget.ensures.1) (record { told = told; exactly = answers_exactly s _ _ _ told; one = one_reading s })
 
 pub loop-event-init : goal.loop-event-init
 loop-event-init c =
-    let o = c.in-ok-cursor.ensures in
+    let o = c.in_ok-cursor.ensures in
     let s = c.args.sheet.now in
     let bytes : Bytes s = search rules in
-    let first = start s _ _ bytes (opened (goal.at.loop-event-init c).In-ok-cursor _ c.in-ok-sections.ensures.answer) in
+    let first = start s _ _ bytes (opened (goal.at.loop-event-init c).In_ok-cursor _ c.in_ok-sections.ensures.answer) in
     (c.sections.ensures.sheet ∙ o.1, (_, refl, subst (Progress s _ _) (sym c.forget.ensures.1) first))
 
-pub returns-in-err-event : goal.returns-in-err-event
-returns-in-err-event c =
-    let p = err_from_is_err_and c.from-residual-in-err-event.result c.from-residual-in-err-event.ensures.1 in
+pub returns-in_err-event : goal.returns-in_err-event
+returns-in_err-event c =
+    let p = err_from_is_err_and c.from_residual-in_err-event.result c.from_residual-in_err-event.ensures.1 in
     let s = c.args.sheet.now in
     let inv = c.loop-event.invariant in
-    let told = told_fault s inv.1.0 _ _ _ inv.1.2 (next_in _ _ _ _ inv.0 c.in-err-event.ensures.answer.0) in
+    let told = told_fault s inv.1.0 _ _ _ inv.1.2 (next_in _ _ _ _ inv.0 c.in_err-event.ensures.answer.0) in
     rw (p.1, p.2, inv.1.1) (record { told = told; exactly = answers_exactly s _ _ _ told; one = one_reading s })
 
 -- the event that was read, and where the next one begins
 further :
-    (c : In-ok-push)
+    (c : In_ok-push)
     → Progress c.args.sheet.now c.loop-event.invariant.1.0 c.event.new.self.at (vec_items c.loop-event.self.events ++ c.in-Some.event ∷ [])
     × (c.loop-event.cursor.at < length c.args.sheet.now) × (c.loop-event.cursor.at < c.event.new.self.at)
 further c =
     let inv = c.loop-event.invariant in
-    more _ _ _ _ _ _ inv.1.2 (next_in _ _ _ _ inv.0 c.in-ok-event.ensures.answer ∙ ap (λ v. Ok (v, c.event.new.self.at)) c.in-Some.is)
+    more _ _ _ _ _ _ inv.1.2 (next_in _ _ _ _ inv.0 c.in_ok-event.ensures.answer ∙ ap (λ v. Ok (v, c.event.new.self.at)) c.in-Some.is)
 
 pub loop-event-smaller : goal.loop-event-smaller
-loop-event-smaller c = let f = further (goal.at.loop-event-smaller c).In-ok-push in omega (arith, f.1, f.2)
+loop-event-smaller c = let f = further (goal.at.loop-event-smaller c).In_ok-push in omega (arith, f.1, f.2)
 
 pub loop-event-preserved : goal.loop-event-preserved
 loop-event-preserved c =
     let inv = c.loop-event.invariant in
-    let f = further (goal.at.loop-event-preserved c).In-ok-push in
-    let pushed = chosen _ _ _ _ c.push.ensures.items (ap is_ok c.in-ok-push.was) in
+    let f = further (goal.at.loop-event-preserved c).In_ok-push in
+    let pushed = chosen _ _ _ _ c.push.ensures.items (ap is_ok c.in_ok-push.was) in
     (c.event.ensures.sheet ∙ inv.0, (inv.1.0, inv.1.1, subst (Progress _ _ _) (sym pushed) f.0))
 
-pub returns-in-err-push : goal.returns-in-err-push
-returns-in-err-push c =
-    let p = err_from_is_err_and c.from-residual-in-err-push.result c.from-residual-in-err-push.ensures.1 in
+pub returns-in_err-push : goal.returns-in_err-push
+returns-in_err-push c =
+    let p = err_from_is_err_and c.from_residual-in_err-push.result c.from_residual-in_err-push.ensures.1 in
     let s = c.args.sheet.now in
     let inv = c.loop-event.invariant in
     let told =
     told_memory s inv.1.0 _ _ _ _ inv.1.2
-    (next_in _ _ _ _ inv.0 c.in-ok-event.ensures.answer ∙ ap (λ v. Ok (v, c.event.new.self.at)) c.in-Some.is) in
-    rw (p.1, p.2, inv.1.1, c.in-err-push.ensures.items) (record { told = told; exactly = answers_exactly s _ _ _ told; one = one_reading s })
+    (next_in _ _ _ _ inv.0 c.in_ok-event.ensures.answer ∙ ap (λ v. Ok (v, c.event.new.self.at)) c.in-Some.is) in
+    rw (p.1, p.2, inv.1.1, c.in_err-push.ensures.items) (record { told = told; exactly = answers_exactly s _ _ _ told; one = one_reading s })
 
 pub returns : goal.returns
 returns c =
     let s = c.args.sheet.now in
     let inv = c.loop-event.invariant in
-    let told = told_end s inv.1.0 _ _ _ inv.1.2 (next_in _ _ _ _ inv.0 c.in-ok-event.ensures.answer ∙ ap (λ v. Ok (v, c.event.new.self.at)) c.in-default.is) in
+    let told = told_end s inv.1.0 _ _ _ inv.1.2 (next_in _ _ _ _ inv.0 c.in_ok-event.ensures.answer ∙ ap (λ v. Ok (v, c.event.new.self.at)) c.in_default.is) in
     rw inv.1.1 (record { told = told; exactly = answers_exactly s _ _ _ told; one = one_reading s })
