@@ -1,4 +1,4 @@
-use Rattle.std.proofs.Common.{◌≡◌, vec_items, sym, ap, ◌∙◌}
+use Rattle.std.proofs.Common.{vec_items, sym, ap, ◌∙◌}
 use Rattle.listing.specs.Listings.{ending_of}
 use Rattle.listing.proofs.text.listing.Goals as goal
 
