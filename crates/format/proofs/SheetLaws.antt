@@ -2,7 +2,7 @@
 use Rattle.std.proofs.Common.{◌≡◌, ℕ, ◌+◌, ◌<◌, ◌≤◌, ◌⊎◌, List, [], ◌∷◌, ◌++◌, length, drop, Some, None, Ok, Err, Option, Result, sym, refl, ap, ◌∙◌, subst, inl, inr, ⊎_elim, append-nil, add-zero, arith}
 use Rattle.std.proofs.lemmas.List.{length-append, length-drop, drop_all, drop_at, drop-drop}
 use Rattle.std.proofs.lemmas.Bool.{cases_lt, le-leb, lt-leb}
-use Rattle.std.specs.List.{flat_map, AllByRecursion as All}
+use Rattle.std.specs.List.{flat_map, AllByRecursion}
 use Rattle.events.specs.declared.event.SectionEvent.{SectionEvent}
 use Rattle.events.specs.Written.{kind_of, written_event, written_number, written_sheet, Proper}
 use Rattle.events.specs.Fields.{kind_number}
@@ -80,7 +80,7 @@ Ended s p r = ((length s ≤ p) × (r ≡ Ok tt)) ⊎ ((f : ReadFault) × (p < l
 -- the count n is read up to q, and the events es from there up to p
 pub record Sofar (s : List ℕ) (n q p : ℕ) (es : List SectionEvent) : Type 0 where
   pub opened : opening s ≡ Ok (n, q)
-  pub proper : All Proper es
+  pub proper : AllByRecursion Proper es
   pub stands : Stands s q p (flat_map written_event es)
 
 pub record Counted (s : List ℕ) (r : Outcome) (sections : Option ℕ) (es : List SectionEvent) : Type 0 where
@@ -325,8 +325,8 @@ module _ (s : List ℕ) where
   -- the same events are read up to where reading ends
   events_one :
       (es ds : List SectionEvent) (p q u : ℕ) (r t : Outcome)
-      → Stands s p q (flat_map written_event es) → All Proper es → Ended s q r
-      → Stands s p u (flat_map written_event ds) → All Proper ds → Ended s u t
+      → Stands s p q (flat_map written_event es) → AllByRecursion Proper es → Ended s q r
+      → Stands s p u (flat_map written_event ds) → AllByRecursion Proper ds → Ended s u t
       → (r ≡ t) × (es ≡ ds)
   events_one [] [] p q u r t a i x b j y =
       let same : q ≡ u = a.after ∙ sym b.after in

@@ -1,6 +1,6 @@
 -- What a sheet is, and when and where reading one stops. Assumes nothing.
 use Rattle.std.specs.Prelude.{◌≡◌, ℕ, ◌+◌, ◌<◌, ◌≤◌, ◌⊎◌, List, [], ◌∷◌, ◌++◌, length, drop, Some, None, Ok, Err, Option, Result}
-use Rattle.std.specs.List.{flat_map, AllByRecursion as All}
+use Rattle.std.specs.List.{flat_map, AllByRecursion}
 use Rattle.events.specs.declared.event.LocatedEvent.{LocatedEvent}
 use Rattle.events.specs.declared.event.SectionEvent.{SectionEvent}
 use Rattle.events.specs.Written.{written_number, numbers_in, written_event, written_sheet, located, Proper}
@@ -22,7 +22,7 @@ pub record Sheet (s : List ℕ) (count : ℕ) (es : List SectionEvent) : Type 0 
   pub bytes : s ≡ written_sheet count es
   pub short : length s ≤ 65536
   pub sections : SectionCount count
-  pub proper : All Proper es
+  pub proper : AllByRecursion Proper es
 
 abbrev pub Accepted : List ℕ → Type 0
 Accepted s = (count : ℕ) × (es : List SectionEvent) × Sheet s count es
@@ -48,7 +48,7 @@ Begun ns = (n : ℕ) × GoesOn ns n
 -- s begins with the written form of a section count, the events es and the numbers ns of one more event, up to p
 pub record ReadUpTo (s : List ℕ) (p count : ℕ) (es : List SectionEvent) (ns : List ℕ) : Type 0 where
   pub sections : SectionCount count
-  pub proper : All Proper es
+  pub proper : AllByRecursion Proper es
   pub begun : Begun ns
   pub stands : Stands s 0 p (written_sheet count es ++ flat_map written_number ns)
 
@@ -164,7 +164,7 @@ pub record WantsMemory (s : List ℕ) (sections : Option ℕ) (es : List Section
   pub count : ℕ
   pub counted : sections ≡ Some count
   pub section_count : SectionCount count
-  pub proper : All Proper es
+  pub proper : AllByRecursion Proper es
   pub place : ℕ
   pub stands : Stands s 0 place (written_sheet count es)
   pub next : SectionEvent
