@@ -9,8 +9,8 @@ use Rattle.block.proofs.bench.Bench.fresh.Goals as goal
 pub invariant-of-result : goal.invariant-of-result
 invariant-of-result g c =
     let n = c.args.sections in
-    let e = c.in_ok-fresh-sections.ensures in
-    let v = c.in_ok-fresh-sections.field-0 in (
+    let e = c.in_ok-fresh_sections.ensures in
+    let v = c.in_ok-fresh_sections.field-0 in (
       omega (arith, v.ok.0, ap length e, length-replicate n fresh_section),
       (
         subst AllUpConsistent (sym e) (each_replicated (λ s. consistent s.up ≡ true) n fresh_section refl),
@@ -24,5 +24,5 @@ invariant-of-result g c =
 pub returns : goal.returns
 returns g c = (
   record { some = omega arith; few = omega arith },
-  cc (c.in_ok-fresh-sections.ensures, c.fresh.ensures, states_fresh c.args.sections 16 fresh_section),
+  cc (c.in_ok-fresh_sections.ensures, c.fresh.ensures, states_fresh c.args.sections 16 fresh_section),
 )

@@ -26,9 +26,9 @@ invariant-of-self-2 g c =
     let b = c.args.self.now in (
       b.few,
       (
-        each_after_set (λ s. consistent s.up ≡ true) b.sections.items c.args.at c.into-section.result b.up_consistent c.into-section.ensures.consistent-up,
+        each_after_set (λ s. consistent s.up ≡ true) b.sections.items c.args.at c.into_section.result b.up_consistent c.into_section.ensures.consistent-up,
         (
-          each_after_set (λ s. consistent s.down ≡ true) b.sections.items c.args.at c.into-section.result b.down_consistent c.into-section.ensures.consistent-down,
+          each_after_set (λ s. consistent s.down ≡ true) b.sections.items c.args.at c.into_section.result b.down_consistent c.into_section.ensures.consistent-down,
           tt,
         ),
       ),
@@ -46,6 +46,6 @@ returns g c =
     let made =
     worked b.sections.items (m b.bank) at c.args.event (section_of c.instruments-instruments.result) c.readings.result c.answer.result
     there c.instruments-instruments.ensures c.readings.ensures c.answer.ensures.answer
-    done (section_of c.answer.new.self) c.into-section.result (m c.tell-2.new.bank) c.readings-2.result
-    c.in_ok-worked.was room c.answer.ensures.section tells c.readings-2.ensures (c.into-section.ensures.section ∙ c.settle.ensures) in
+    done (section_of c.answer.new.self) c.into_section.result (m c.tell-2.new.bank) c.readings-2.result
+    c.in_ok-worked.was room c.answer.ensures.section tells c.readings-2.ensures (c.into_section.ensures.section ∙ c.settle.ensures) in
     record { answer = made.0; bench = made.1 }

@@ -18,5 +18,5 @@ returns c =
     let work =
     quiet_work l s _ v w _ (acknowledging_makes c.args.code c.of-role.result c.args.consent) (acknowledging_makes c.args.code x c.args.consent) c.line-at.result.row c.acknowledge-verdict.new.self.row _
     c.line-at.ensures judged (ap (λ y. acknowledging_makes c.args.code y c.args.consent) c.of-role.ensures) c.acknowledge-verdict.ensures.answer c.acknowledge-verdict.ensures.row
-    (acknowledging_tells c.args.code x c.args.consent (row_of l s)) c.conclude-quietly.ensures.answer c.conclude-quietly.ensures.section in
+    (acknowledging_tells c.args.code x c.args.consent (row_of l s)) c.conclude_quietly.ensures.answer c.conclude_quietly.ensures.section in
     record { answer = work.0; section = work.1 }

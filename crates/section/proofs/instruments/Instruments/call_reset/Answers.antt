@@ -15,7 +15,7 @@ returns c =
     let w = checked (reset_needs c.args.station (reading_on l c.args.readings) (row_of l s)) in
     let judged : v ≡ w = cc in
     let work =
-    telling_work l s _ v w _ (reset_called c.args.station) c.line-at.result.row c.call-reset-verdict.new.self.row _
-    c.line-at.ensures judged c.call-reset-verdict.ensures.answer c.call-reset-verdict.ensures.row
+    telling_work l s _ v w _ (reset_called c.args.station) c.line-at.result.row c.call_reset-verdict.new.self.row _
+    c.line-at.ensures judged c.call_reset-verdict.ensures.answer c.call_reset-verdict.ensures.row
     c.conclude.ensures.answer c.conclude.ensures.section in
     record { answer = work.0; section = work.1 }

@@ -15,7 +15,7 @@ returns c =
     let w = checked (resume_needs c.args.station (reading_on l c.args.readings) (row_of l s)) in
     let judged : v ≡ w = cc in
     let work =
-    quiet_work l s _ v w _ (resume_called c.args.station) (resume_called c.args.station) c.line-at.result.row c.call-resume-verdict.new.self.row _
-    c.line-at.ensures judged refl c.call-resume-verdict.ensures.answer c.call-resume-verdict.ensures.row
-    (refl) c.conclude-quietly.ensures.answer c.conclude-quietly.ensures.section in
+    quiet_work l s _ v w _ (resume_called c.args.station) (resume_called c.args.station) c.line-at.result.row c.call_resume-verdict.new.self.row _
+    c.line-at.ensures judged refl c.call_resume-verdict.ensures.answer c.call_resume-verdict.ensures.row
+    (refl) c.conclude_quietly.ensures.answer c.conclude_quietly.ensures.section in
     record { answer = work.0; section = work.1 }

@@ -15,7 +15,7 @@ returns c =
     let w = checked (trolley_end_needs (row_of l s)) in
     let judged : v ≡ w = cc in
     let work =
-    quiet_work l s _ v w _ (trolley_ended c.args.place) (trolley_ended c.args.place) c.line-at.result.row c.end-trolley-verdict.new.self.row _
-    c.line-at.ensures judged refl c.end-trolley-verdict.ensures.answer c.end-trolley-verdict.ensures.row
-    (refl) c.conclude-quietly.ensures.answer c.conclude-quietly.ensures.section in
+    quiet_work l s _ v w _ (trolley_ended c.args.place) (trolley_ended c.args.place) c.line-at.result.row c.end_trolley-verdict.new.self.row _
+    c.line-at.ensures judged refl c.end_trolley-verdict.ensures.answer c.end_trolley-verdict.ensures.row
+    (refl) c.conclude_quietly.ensures.answer c.conclude_quietly.ensures.section in
     record { answer = work.0; section = work.1 }

@@ -10,4 +10,4 @@ returns c =
     leaving_work c.args.line (section_of c.args.self.now) c.args.axles c.line-at.result.row c.leave-answer.new.self.row c.leave-answer.result
     c.line-at.ensures c.leave-answer.ensures.answer (c.leave-answer.ensures.row c.args.axles) in
     let written = ap (suspended_beside c.leave-answer.result c.args.line) c.put.ensures in
-    record { answer = c.telling.ensures ∙ work.0; section = c.suspend-beside.ensures ∙ written ∙ work.1 }
+    record { answer = c.telling.ensures ∙ work.0; section = c.suspend_beside.ensures ∙ written ∙ work.1 }

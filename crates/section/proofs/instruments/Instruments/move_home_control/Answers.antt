@@ -15,7 +15,7 @@ returns c =
     let w = checked (home_control_needs c.args.position (row_of l s)) in
     let judged : v ≡ w = cc in
     let work =
-    quiet_work l s _ v w _ (home_moved c.args.position) (home_moved c.args.position) c.line-at.result.row c.move-home-control-verdict.new.self.row _
-    c.line-at.ensures judged refl c.move-home-control-verdict.ensures.answer c.move-home-control-verdict.ensures.row
-    (refl) c.conclude-quietly.ensures.answer c.conclude-quietly.ensures.section in
+    quiet_work l s _ v w _ (home_moved c.args.position) (home_moved c.args.position) c.line-at.result.row c.move_home_control-verdict.new.self.row _
+    c.line-at.ensures judged refl c.move_home_control-verdict.ensures.answer c.move_home_control-verdict.ensures.row
+    (refl) c.conclude_quietly.ensures.answer c.conclude_quietly.ensures.section in
     record { answer = work.0; section = work.1 }

@@ -15,7 +15,7 @@ returns c =
     let w = checked (stop_control_needs c.args.position (reading_on l c.args.readings) (row_of l s)) in
     let judged : v ≡ w = cc in
     let work =
-    quiet_work l s _ v w _ (stop_control_makes c.args.position) (stop_control_makes c.args.position) c.line-at.result.row c.move-stop-control-verdict.new.self.row _
-    c.line-at.ensures judged refl c.move-stop-control-verdict.ensures.answer c.move-stop-control-verdict.ensures.row
-    (stop_control_tells c.args.position (row_of l s)) c.conclude-quietly.ensures.answer c.conclude-quietly.ensures.section in
+    quiet_work l s _ v w _ (stop_control_makes c.args.position) (stop_control_makes c.args.position) c.line-at.result.row c.move_stop_control-verdict.new.self.row _
+    c.line-at.ensures judged refl c.move_stop_control-verdict.ensures.answer c.move_stop_control-verdict.ensures.row
+    (stop_control_tells c.args.position (row_of l s)) c.conclude_quietly.ensures.answer c.conclude_quietly.ensures.section in
     record { answer = work.0; section = work.1 }

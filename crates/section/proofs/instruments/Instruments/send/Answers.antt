@@ -18,5 +18,5 @@ returns c =
     let work =
     quiet_work l s _ v w _ (sending_makes c.args.code c.of.result) (sending_makes c.args.code x) c.line-at.result.row c.send-verdict.new.self.row _
     c.line-at.ensures judged (ap (sending_makes c.args.code) c.of.ensures) c.send-verdict.ensures.answer c.send-verdict.ensures.row
-    (sending_tells c.args.code x (row_of l s)) c.conclude-quietly.ensures.answer c.conclude-quietly.ensures.section in
+    (sending_tells c.args.code x (row_of l s)) c.conclude_quietly.ensures.answer c.conclude_quietly.ensures.section in
     record { answer = work.0; section = work.1 }
