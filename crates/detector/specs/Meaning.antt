@@ -67,7 +67,7 @@ reading_number Occupied = 1
 reading_number Failed = 2
 
 abbrev pub reading_is : Reading → Reading → Bool
-reading_is x y = eqb (reading_number x) (reading_number y)
+reading_is x y = eqb (reading_number y) (reading_number x)
 
 -- clear is the only reading that passes
 abbrev pub reads_clear : Meaning → Bool

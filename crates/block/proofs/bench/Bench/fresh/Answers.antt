@@ -6,20 +6,16 @@ use Rattle.line.specs.Records.{consistent}
 use Rattle.section.specs.Sections.{fresh_section}
 use Rattle.block.proofs.bench.Bench.fresh.Goals as goal
 
-pub invariant-of-result : goal.invariant-of-result
-invariant-of-result g c =
+pub invariant_of-result : goal.invariant_of-result
+invariant_of-result g c =
     let n = c.args.sections in
     let e = c.in_ok-fresh_sections.ensures in
-    let v = c.in_ok-fresh_sections.field-0 in (
-      omega (arith, v.ok.0, ap length e, length-replicate n fresh_section),
-      (
-        subst AllUpConsistent (sym e) (each_replicated (λ s. consistent s.up ≡ true) n fresh_section refl),
-        (
-          subst AllDownConsistent (sym e) (each_replicated (λ s. consistent s.down ≡ true) n fresh_section refl),
-          tt,
-        ),
-      ),
-    )
+    let v = c.in_ok-fresh_sections.field-0 in
+    record {
+      few = omega (arith, v.ok.0, ap length e, length-replicate n fresh_section);
+      up_consistent = subst AllUpConsistent (sym e) (each_replicated (λ s. consistent s.up ≡ true) n fresh_section refl);
+      down_consistent = subst AllDownConsistent (sym e) (each_replicated (λ s. consistent s.down ≡ true) n fresh_section refl);
+    }
 
 pub returns : goal.returns
 returns g c = (

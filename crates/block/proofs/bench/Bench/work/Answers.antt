@@ -21,18 +21,14 @@ returns-in_err-worked g c =
     there c.instruments-instruments.ensures c.readings.ensures c.answer.ensures.answer c.in_err-worked.field-0.0 c.in_err-worked.was in
     record { answer = p.1 ∙ ap Err p.2 ∙ left.0; bench = left.1 }
 
-pub invariant-of-self-2 : goal.invariant-of-self-2
-invariant-of-self-2 g c =
-    let b = c.args.self.now in (
-      b.few,
-      (
-        each_after_set (λ s. consistent s.up ≡ true) b.sections.items c.args.at c.into_section.result b.up_consistent c.into_section.ensures.consistent-up,
-        (
-          each_after_set (λ s. consistent s.down ≡ true) b.sections.items c.args.at c.into_section.result b.down_consistent c.into_section.ensures.consistent-down,
-          tt,
-        ),
-      ),
-    )
+pub invariant_of-self-2 : goal.invariant_of-self-2
+invariant_of-self-2 g c =
+    let b = c.args.self.now in
+    record {
+      few = b.few;
+      up_consistent = each_after_set (λ s. consistent s.up ≡ true) b.sections.items c.args.at c.into_section.result b.up_consistent c.into_section.ensures.consistent_up;
+      down_consistent = each_after_set (λ s. consistent s.down ≡ true) b.sections.items c.args.at c.into_section.result b.down_consistent c.into_section.ensures.consistent_down;
+    }
 
 pub returns : goal.returns
 returns g c =
