@@ -1,5 +1,5 @@
 -- The numbers of answers, and how a list of needs is judged. Assumes nothing.
-use Rattle.std.specs.Prelude.{ℕ, Bool, true, false, cond, List, [], ◌∷◌, Ok, Err, Result}
+use Rattle.std.specs.Prelude.{ℕ, Bool, cond, List, [], ◌∷◌, Ok, Err, Result}
 use Rattle.answer.specs.declared.Answer.{Answer}
 use Rattle.answer.specs.declared.Answer.TheVariants.{Accepted, PassedAtOn, LeftUnexpected, Refused}
 use Rattle.answer.specs.declared.Refusal.{Refusal}

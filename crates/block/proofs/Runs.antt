@@ -1,10 +1,9 @@
 -- One event more of a run. Assumes nothing.
 use Rattle.std.proofs.Common.{◌≡◌, ℕ, ◌+◌, ◌<◌, List, [], ◌∷◌, ◌++◌, length, get_or, take, sym, refl, ap, ◌∙◌}
 use Rattle.std.proofs.lemmas.List.{take_more}
-use Rattle.answer.specs.declared.Answer.{Answer}
 use Rattle.events.specs.declared.event.SectionEvent.{SectionEvent}
 use Rattle.runs.specs.Benches.{BenchState, answer_at, bench_after, face_at}
-use Rattle.runs.specs.Histories.{ByTheRules, History, Leads, Step, ◌▸◌, entries_in, entry_of, events_in}
+use Rattle.runs.specs.Histories.{History, Leads, Step, ◌▸◌, entries_in, entry_of, events_in}
 use Rattle.section.specs.declared.face.Entry.{Entry}
 
 -- the history of the first i events, with these entries, from one bench to another

@@ -1,18 +1,15 @@
 -- What `Bench::work` has found, decided and put back is what the rules say of the bench. Assumes nothing.
-use Rattle.std.proofs.Common.{◌≡◌, ℕ, ◌+◌, ◌*◌, ◌<◌, Bool, true, false, cond, ltb, ◌≢◌, List, length, get_or, set, Ok, Err, Option, Result, sym, refl, ap, ◌∙◌, subst, arith}
+use Rattle.std.proofs.Common.{◌≡◌, ℕ, ◌+◌, ◌*◌, ◌<◌, ◌≢◌, List, length, get_or, set, Ok, Err, Result, sym, refl, ap, ◌∙◌, subst, arith}
 use Rattle.std.proofs.lemmas.List.{get_or-set_other, get_or-set_same, length-set}
-use Rattle.std.proofs.lemmas.Bool.{lt-ltb}
 use Rattle.answer.specs.Answers.{Verdict, checked, given_that, unless_refused}
 use Rattle.answer.specs.declared.Answer.{Answer}
 use Rattle.answer.specs.declared.Refusal.{Refusal}
-use Rattle.answer.specs.declared.Refusal.TheVariants.{NoSection, OutsideValues}
 use Rattle.bank.specs.Places.{no_detector}
 use Rattle.block.specs.Tables.{states}
-use Rattle.block.proofs.Tables.{length_states, set_state, state, state_at}
+use Rattle.block.proofs.Tables.{set_state, state, state_at}
 use Rattle.detector.specs.Meaning.{Meaning}
 use Rattle.events.specs.declared.event.Event.{Event}
-use Rattle.events.specs.declared.event.SectionEvent.{SectionEvent}
-use Rattle.runs.specs.Benches.{bench_after, no_section, outcome_at, section_at, verdict_at}
+use Rattle.runs.specs.Benches.{no_section, section_at}
 use Rattle.section.specs.Sections.{actions_of, done_by, needs, outcome, section_after, section_settled, worked_by}
 use Rattle.section.specs.States.{SectionState, readings_of, state_after, state_needs, told}
 use Rattle.section.specs.declared.section.Readings.{Readings}

@@ -1,7 +1,7 @@
 -- A consent that is not refused leaves a record that keeps what every line record keeps. Assumes nothing.
 use Rattle.std.proofs.Common.{◌≡◌, Bool, true, false, Ok, refl, arith}
 use Rattle.std.proofs.lemmas.Bool.Decides.{nat_tests}
-use Rattle.answer.specs.Answers.{Verdict, checked}
+use Rattle.answer.specs.Answers.{checked}
 use Rattle.detector.specs.declared.Reading.{Reading}
 use Rattle.events.specs.declared.field.Code.{Code}
 use Rattle.events.specs.declared.field.Code.TheVariants as code

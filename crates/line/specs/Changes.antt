@@ -5,7 +5,6 @@ use Rattle.detector.specs.declared.Action.{Action}
 use Rattle.detector.specs.declared.Action.TheVariants as action
 use Rattle.detector.specs.declared.Reading.{Reading}
 use Rattle.detector.specs.declared.Reading.TheVariants as reading
-use Rattle.events.specs.Tests.{is_reversed}
 use Rattle.events.specs.declared.field.Place.{Place}
 use Rattle.events.specs.declared.field.Place.TheVariants as place
 use Rattle.events.specs.declared.field.Position.{Position}

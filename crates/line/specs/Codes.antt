@@ -1,5 +1,5 @@
 -- The bell codes: who may send each, with which turn, what it needs of the line, and what it does. Assumes nothing.
-use Rattle.std.specs.Prelude.{ℕ, Bool, true, false, cond, not, ◌&&◌, ◌||◌, [], ◌∷◌, ◌==◌}
+use Rattle.std.specs.Prelude.{ℕ, Bool, true, cond, not, ◌&&◌, ◌||◌, [], ◌∷◌, ◌==◌}
 use Rattle.answer.specs.Answers.{Needs}
 use Rattle.answer.specs.declared.Refusal.TheVariants as refusal
 use Rattle.detector.specs.Meaning.{reading_is}

@@ -1,5 +1,5 @@
 -- What the controls, trains, trolleys and calls need of a line, and what they do. Assumes nothing.
-use Rattle.std.specs.Prelude.{ℕ, Bool, true, false, cond, not, ◌&&◌, [], ◌∷◌, Some, None, Option}
+use Rattle.std.specs.Prelude.{ℕ, Bool, false, cond, not, ◌&&◌, [], ◌∷◌, Some, None, Option}
 use Rattle.answer.specs.Answers.{Needs}
 use Rattle.answer.specs.declared.Answer.{Answer}
 use Rattle.answer.specs.declared.Answer.TheVariants.{Accepted, PassedAtOn, LeftUnexpected}

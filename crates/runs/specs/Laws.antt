@@ -14,7 +14,6 @@ use Rattle.events.specs.declared.field.Direction.{Direction}
 use Rattle.events.specs.declared.field.Kind.{Kind}
 use Rattle.events.specs.declared.field.Kind.TheVariants as kind
 use Rattle.events.specs.declared.field.Position.TheVariants as position
-use Rattle.events.specs.declared.field.Station.{Station}
 use Rattle.line.specs.Codes.{despatcher}
 use Rattle.line.specs.Records.{implies, is_off, train_or_trolley}
 use Rattle.line.specs.declared.row.Row.{Row}

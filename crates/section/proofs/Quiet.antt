@@ -1,5 +1,5 @@
 -- The bell codes and the stop control tell a detector nothing. Assumes nothing.
-use Rattle.std.proofs.Common.{◌≡◌, None, refl, arith}
+use Rattle.std.proofs.Common.{◌≡◌, None, refl}
 use Rattle.events.specs.declared.field.Code.{Code}
 use Rattle.events.specs.declared.field.Code.TheVariants as code
 use Rattle.events.specs.declared.field.Consent.{Consent}

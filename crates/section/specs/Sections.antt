@@ -1,6 +1,6 @@
 -- The rules of a section, by what the detectors of its two lines read: what an event needs, what it is answered, and what
 -- it makes of the bell and of each line. Assumes nothing.
-use Rattle.std.specs.Prelude.{Bool, cond, [], ◌∷◌, None, Ok, Err, Option, Result}
+use Rattle.std.specs.Prelude.{cond, [], ◌∷◌, None, Ok, Err, Option, Result}
 use Rattle.answer.specs.Answers.{Needs, checked, given_that}
 use Rattle.answer.specs.declared.Answer.{Answer}
 use Rattle.answer.specs.declared.Answer.TheVariants.{Accepted, LeftUnexpected, PassedAtOn, Refused}
@@ -17,7 +17,6 @@ use Rattle.events.specs.declared.event.Event.TheVariants as event
 use Rattle.events.specs.declared.field.Consent.{Consent}
 use Rattle.events.specs.declared.field.Direction.{Direction}
 use Rattle.events.specs.declared.field.Direction.TheVariants.{Up, Down}
-use Rattle.events.specs.declared.field.Station.{Station}
 use Rattle.events.specs.declared.field.Turn.{Turn}
 use Rattle.line.specs.Changes.{Change, action_of, detector_failed, home_moved, reset_called, resume_called, rolled, row_after, settled, suspended, trolley_ended, trolley_started, unchanged}
 use Rattle.line.specs.Codes.{acknowledge_needs, acknowledging_makes, role_of, send_needs, sending_makes}

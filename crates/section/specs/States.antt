@@ -1,5 +1,5 @@
 -- A section with what its two detectors mean, and what an event does to both. Assumes nothing.
-use Rattle.answer.specs.Answers.{Needs, Verdict, checked}
+use Rattle.answer.specs.Answers.{Needs}
 use Rattle.std.specs.Prelude.{Some, None, Option}
 use Rattle.detector.specs.Meaning.{Meaning, acted, fresh, reading_of}
 use Rattle.detector.specs.declared.Action.{Action}

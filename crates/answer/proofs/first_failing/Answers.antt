@@ -1,4 +1,4 @@
-use Rattle.std.proofs.Common.{◌≡◌, Bool, false, sym, ◌∙◌}
+use Rattle.std.proofs.Common.{Bool, false, sym, ◌∙◌}
 use Rattle.std.proofs.lemmas.List.{at_drop_all, at_drop_more}
 use Rattle.answer.specs.Answers.{checked}
 use Rattle.answer.specs.declared.Refusal.{Refusal}

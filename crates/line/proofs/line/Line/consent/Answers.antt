@@ -3,7 +3,7 @@ use Rattle.answer.specs.Answers.{checked, unless_refused}
 use Rattle.events.specs.Tests.{turn_is}
 use Rattle.line.specs.Changes.{row_after, with_permission}
 use Rattle.line.specs.Codes.{acknowledged_with, code_needs, consent_makes}
-use Rattle.line.proofs.Consents.{Kept, consent_is, consent_keeps}
+use Rattle.line.proofs.Consents.{consent_is, consent_keeps}
 use Rattle.line.proofs.line.Line.consent.Goals as goal
 use Rattle.line.proofs.line.Line.consent.Goals.{In_ok-code_allowed}
 

@@ -3,7 +3,7 @@ use Rattle.answer.specs.Answers.{checked}
 use Rattle.line.specs.Changes.{trolley_ended}
 use Rattle.line.specs.Lines.{trolley_end_needs}
 use Rattle.section.specs.Instruments.{section_of}
-use Rattle.section.specs.Sections.{reading_on, row_of}
+use Rattle.section.specs.Sections.{row_of}
 use Rattle.section.proofs.Works.{quiet_work}
 use Rattle.section.proofs.instruments.Instruments.end_trolley.Goals as goal
 

@@ -3,7 +3,7 @@ use Rattle.answer.specs.Answers.{checked}
 use Rattle.line.specs.Changes.{home_moved}
 use Rattle.line.specs.Lines.{home_control_needs}
 use Rattle.section.specs.Instruments.{section_of}
-use Rattle.section.specs.Sections.{reading_on, row_of}
+use Rattle.section.specs.Sections.{row_of}
 use Rattle.section.proofs.Works.{quiet_work}
 use Rattle.section.proofs.instruments.Instruments.move_home_control.Goals as goal
 
