@@ -5,6 +5,7 @@ use anyhow::anyhow;
 use listing::text::listing;
 use std::env;
 use std::io::Read;
+use std::process::ExitCode;
 
 // The longest sheet has 65,536 bytes: one more tells a sheet that is too long.
 const MOST: u64 = 65_537;
@@ -37,10 +38,12 @@ fn run(rt: &HostRuntime) -> anyhow::Result<()> {
     Ok(())
 }
 
-fn main(rt: HostRuntime) -> anyhow::Result<()> {
-    let result = run(&rt);
-    if let Err(error) = &result {
-        let _ = eprintln!(rt; "sheet: {error}");
+fn main(rt: HostRuntime) -> ExitCode {
+    match run(&rt) {
+        Ok(()) => ExitCode::SUCCESS,
+        Err(error) => {
+            let _ = eprintln!(rt; "sheet: {error}");
+            ExitCode::FAILURE
+        }
     }
-    result
 }
