@@ -113,13 +113,13 @@ fn readme() -> String {
 const README_HEAD: &str = "\
 # Examples
 
-Each example is a sheet of events, `NAME.sheet`, with the register that the bench prints for it, `NAME.register`. To work one on the bench:
+Each example is a sheet of events, `NAME.sheet`, with the register that a bench has to write for it, `NAME.register`. No program of the repository writes registers yet; the outside program works one out by itself:
 
 ```
-target/bin/bench < examples/train-through.sheet
+target/outside/outside register < examples/train-through.sheet
 ```
 
-`target/bin/sheet` tells the events of a sheet in words. The files here, this page too, are written by `outside examples examples`; see [outside](../outside/README.md).
+`crates/sheet/out/sheet` tells the events of a sheet in words, once it is built. The files here, this page too, are written by `outside examples examples`; see [outside](../outside/README.md).
 
 | Example | What it shows |
 |-|-|

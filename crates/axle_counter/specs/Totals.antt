@@ -24,7 +24,7 @@ totals_meaning t = counting (axles_of t) t.failed
 abbrev pub no_totals : Totals
 no_totals = record { in_total = 0; out_total = 0; failed = false }
 
--- the in_total gains what there is room for
+-- the in-total gains what there is room for
 abbrev pub totals_in : ℕ → Totals → Totals
 totals_in k t =
     let room = limit - axles_of t in
@@ -34,7 +34,7 @@ totals_in k t =
       failed = cond (leb k room) t.failed true;
     }
 
--- the out_total gains what there is to come out
+-- the out-total gains what there is to come out
 abbrev pub totals_out : ℕ → Totals → Totals
 totals_out k t =
     record {

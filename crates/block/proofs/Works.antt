@@ -86,8 +86,8 @@ module _
       let shown : y ≡ readings_of u d = cc in
       let changed : t ≡ section_after s e =
       left ∙ ap (λ (z : Readings). unless_refused (checked (needs s z e)) (section_after s e) s) read ∙ ap (λ (v : Verdict). unless_refused v (section_after s e) s) yes.0 in
-      let told-up : u ≡ told (actions_of s e).up up = ap (λ (z : Worked). told z.actions.up up) (sym yes.1) in
-      let told-down : d ≡ told (actions_of s e).down down = ap (λ (z : Worked). told z.actions.down down) (sym yes.1) in
+      let told_up : u ≡ told (actions_of s e).up up = ap (λ (z : Worked). told z.actions.up up) (sym yes.1) in
+      let told_down : d ≡ told (actions_of s e).down down = ap (λ (z : Worked). told z.actions.down down) (sym yes.1) in
       let made : state after u d ≡ state_after here e = cc in
       let put = set_state ss ms i after u d h j in
       let stands : states (set ss i after) ms' ≡ set (states ss ms) i (state_after here e) = ap (states (set ss i after)) row ∙ put ∙ ap (set (states ss ms) i) made in

@@ -117,11 +117,11 @@ module _ (i j : ℕ) (l : Direction) (before after : BenchState) (h : History) (
   named_says : (m : Direction) (own beside : Direction → Change) (e : Direction → Event) (y : Direction → Answer)
       → (l ≡ m → Said (own l) (e l) (y l)) → (direction_is l m ≡ false → Said (beside m) (e m) (y m))
       → Said (on_or_beside l m (own m) (beside m)) (e m) (y m)
-  named_says m own beside e y on-it off-it = go (direction_is l m) refl
+  named_says m own beside e y on_it off_it = go (direction_is l m) refl
     where
       go : (same : Bool) → direction_is l m ≡ same → Said (cond same (own m) (beside m)) (e m) (y m)
-      go true d = let same = same_direction l m d in subst (λ (n : Direction). Said (own n) (e n) (y n)) same (on-it same)
-      go false d = off-it d
+      go true d = let same = same_direction l m d in subst (λ (n : Direction). Said (own n) (e n) (y n)) same (on_it same)
+      go false d = off_it d
 
   acknowledging_says : (b : Bell) (a : Station) (y : Consent) (t : Turn) → bell_ready b (event.Acknowledge a y t) ≡ true → Heard b (last_send i h)
       → Said (pending_makes b y l) (event.Acknowledge a y t) Accepted

@@ -128,9 +128,9 @@ pub leaving_work :
     → (telling a l (Some (CountOut k)) ≡ done_by s (Leave l k)) × (suspended_beside a l (with_row l new s) ≡ lines_after s (Leave l k))
 leaving_work l s k old new a taken answered changed =
     let used = used_train (row_of l s).permission in
-    let as-left = changed ∙ ap (λ (x : Row). row_after (leaving_makes k x) x) taken in
-    let as-answered = answered ∙ ap leaving_answer taken in (
-      left_told used l s k a ∙ ap (λ (x : Answer). record { answer = x; actions = (done_by s (Leave l k)).actions }) as-answered,
-      ap (λ (x : Answer). suspended_beside x l (with_row l new s)) as-answered
-          ∙ ap (λ (x : Row). suspended_beside (leaving_answer (row_of l s)) l (with_row l x s)) as-left ∙ left_both used l s k,
+    let as_left = changed ∙ ap (λ (x : Row). row_after (leaving_makes k x) x) taken in
+    let as_answered = answered ∙ ap leaving_answer taken in (
+      left_told used l s k a ∙ ap (λ (x : Answer). record { answer = x; actions = (done_by s (Leave l k)).actions }) as_answered,
+      ap (λ (x : Answer). suspended_beside x l (with_row l new s)) as_answered
+          ∙ ap (λ (x : Row). suspended_beside (leaving_answer (row_of l s)) l (with_row l x s)) as_left ∙ left_both used l s k,
     )
