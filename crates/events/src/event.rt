@@ -2,7 +2,7 @@
 use crate::field::{Code, Consent, Direction, Place, Position, Station, Turn};
 
 // An event of one section. Axles and track are plain numbers, so that a caller can make an event that is outside its values.
-#[derive(Clone, Copy)]
+#[derive(Clone, Copy, Debug, PartialEq, Eq)]
 pub enum Event {
     Call {
         station: Station,
@@ -65,14 +65,14 @@ pub enum Event {
 }
 
 // An event, with the number of its section beside it.
-#[derive(Clone, Copy)]
+#[derive(Clone, Copy, Debug, PartialEq, Eq)]
 pub struct SectionEvent {
     pub section: u16,
     pub event: Event,
 }
 
 // What a sheet tells at the byte `offset`.
-#[derive(Clone, Copy)]
+#[derive(Clone, Copy, Debug, PartialEq, Eq)]
 pub struct LocatedEvent {
     pub offset: usize,
     pub told: SectionEvent,

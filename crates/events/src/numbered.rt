@@ -1,37 +1,65 @@
 // A value that a sheet writes as one number: what each number stands for.
-ghost use Rattle.std.specs.Prelude.{◌≡◌, ℕ, Some};
+ghost use Rattle.std.specs.Prelude.{◌≡◌, ℕ, Some, Result};
 ghost use Rattle.events.specs.Fields.{Field, codes, consents, directions, kinds, places, positions, stations, turns, every_kind, kind_number};
+ghost use Rattle.events.specs.Numbered.{read};
+ghost use Rattle.events.specs.declared.numbered.NoSuchValue.{NoSuchValue};
 ghost use Rattle.std.proofs.Common.{rules};
 ghost use Rattle.events.specs.Listed.{listed_back};
 
 use crate::field::{Code, Consent, Direction, Kind, Place, Position, Station, Turn};
 
+// A number that stands for no value of a field.
+#[derive(Clone, Copy, Debug, PartialEq, Eq)]
+pub struct NoSuchValue(pub u16);
+
 // One match for each enum is its table in the code; `field` is its table in the specs.
-pub trait Numbered: Sized {
+pub trait Numbered: TryFrom<u16, Error = NoSuchValue> {
     ghost field: { Field Self };
 
-    fn from_number(number: u16) -> Option<Self>
-        ensures { result ≡ field.value number };
+    // A number is read by the table,
+    ghost reads: { (n : ℕ) (r : Result Self NoSuchValue) → Self.TryFrom.try_from_gives n r → r ≡ read field n };
 
-    // Each value is what its number stands for,
+    // each value is what its number stands for,
     ghost reads_back: { (x : Self) → field.value (field.number x) ≡ Some x };
 
     // and no other number stands for it.
     ghost one_number: { (n : ℕ) (x : Self) → field.value n ≡ Some x → n ≡ field.number x };
 }
 
+impl TryFrom<u16> for Station {
+    type Error = NoSuchValue;
+
+    ghost try_from_gives = { λ n r. r ≡ read stations n };
+
+    fn try_from(number: u16) -> Result<Station, NoSuchValue> {
+        match number {
+            0 => Ok(Station::Zero),
+            1 => Ok(Station::One),
+            _ => Err(NoSuchValue(number)),
+        }
+    }
+}
+
 impl Numbered for Station {
     ghost field = { stations };
+
+    ghost reads = { λ n r e. e };
 
     ghost reads_back = { Prim.search rules };
 
     ghost one_number = { Prim.search rules };
+}
 
-    fn from_number(number: u16) -> Option<Station> {
+impl TryFrom<u16> for Direction {
+    type Error = NoSuchValue;
+
+    ghost try_from_gives = { λ n r. r ≡ read directions n };
+
+    fn try_from(number: u16) -> Result<Direction, NoSuchValue> {
         match number {
-            0 => Some(Station::Zero),
-            1 => Some(Station::One),
-            _ => None,
+            0 => Ok(Direction::Up),
+            1 => Ok(Direction::Down),
+            _ => Err(NoSuchValue(number)),
         }
     }
 }
@@ -39,15 +67,29 @@ impl Numbered for Station {
 impl Numbered for Direction {
     ghost field = { directions };
 
+    ghost reads = { λ n r e. e };
+
     ghost reads_back = { Prim.search rules };
 
     ghost one_number = { Prim.search rules };
+}
 
-    fn from_number(number: u16) -> Option<Direction> {
+impl TryFrom<u16> for Code {
+    type Error = NoSuchValue;
+
+    ghost try_from_gives = { λ n r. r ≡ read codes n };
+
+    fn try_from(number: u16) -> Result<Code, NoSuchValue> {
         match number {
-            0 => Some(Direction::Up),
-            1 => Some(Direction::Down),
-            _ => None,
+            1 => Ok(Code::IsLineClear),
+            2 => Ok(Code::TrainEntering),
+            3 => Ok(Code::TrainOut),
+            4 => Ok(Code::CancelLast),
+            5 => Ok(Code::ObstructionRemoved),
+            6 => Ok(Code::Trolley),
+            7 => Ok(Code::BlockForward),
+            8 => Ok(Code::BlockBack),
+            _ => Err(NoSuchValue(number)),
         }
     }
 }
@@ -55,21 +97,24 @@ impl Numbered for Direction {
 impl Numbered for Code {
     ghost field = { codes };
 
+    ghost reads = { λ n r e. e };
+
     ghost reads_back = { Prim.search rules };
 
     ghost one_number = { Prim.search rules };
+}
 
-    fn from_number(number: u16) -> Option<Code> {
+impl TryFrom<u16> for Turn {
+    type Error = NoSuchValue;
+
+    ghost try_from_gives = { λ n r. r ≡ read turns n };
+
+    fn try_from(number: u16) -> Result<Turn, NoSuchValue> {
         match number {
-            1 => Some(Code::IsLineClear),
-            2 => Some(Code::TrainEntering),
-            3 => Some(Code::TrainOut),
-            4 => Some(Code::CancelLast),
-            5 => Some(Code::ObstructionRemoved),
-            6 => Some(Code::Trolley),
-            7 => Some(Code::BlockForward),
-            8 => Some(Code::BlockBack),
-            _ => None,
+            0 => Ok(Turn::Straight),
+            1 => Ok(Turn::Left),
+            2 => Ok(Turn::Right),
+            _ => Err(NoSuchValue(number)),
         }
     }
 }
@@ -77,16 +122,23 @@ impl Numbered for Code {
 impl Numbered for Turn {
     ghost field = { turns };
 
+    ghost reads = { λ n r e. e };
+
     ghost reads_back = { Prim.search rules };
 
     ghost one_number = { Prim.search rules };
+}
 
-    fn from_number(number: u16) -> Option<Turn> {
+impl TryFrom<u16> for Consent {
+    type Error = NoSuchValue;
+
+    ghost try_from_gives = { λ n r. r ≡ read consents n };
+
+    fn try_from(number: u16) -> Result<Consent, NoSuchValue> {
         match number {
-            0 => Some(Turn::Straight),
-            1 => Some(Turn::Left),
-            2 => Some(Turn::Right),
-            _ => None,
+            0 => Ok(Consent::Withheld),
+            1 => Ok(Consent::Given),
+            _ => Err(NoSuchValue(number)),
         }
     }
 }
@@ -94,15 +146,23 @@ impl Numbered for Turn {
 impl Numbered for Consent {
     ghost field = { consents };
 
+    ghost reads = { λ n r e. e };
+
     ghost reads_back = { Prim.search rules };
 
     ghost one_number = { Prim.search rules };
+}
 
-    fn from_number(number: u16) -> Option<Consent> {
+impl TryFrom<u16> for Position {
+    type Error = NoSuchValue;
+
+    ghost try_from_gives = { λ n r. r ≡ read positions n };
+
+    fn try_from(number: u16) -> Result<Position, NoSuchValue> {
         match number {
-            0 => Some(Consent::Withheld),
-            1 => Some(Consent::Given),
-            _ => None,
+            0 => Ok(Position::Normal),
+            1 => Ok(Position::Reversed),
+            _ => Err(NoSuchValue(number)),
         }
     }
 }
@@ -110,15 +170,23 @@ impl Numbered for Consent {
 impl Numbered for Position {
     ghost field = { positions };
 
+    ghost reads = { λ n r e. e };
+
     ghost reads_back = { Prim.search rules };
 
     ghost one_number = { Prim.search rules };
+}
 
-    fn from_number(number: u16) -> Option<Position> {
+impl TryFrom<u16> for Place {
+    type Error = NoSuchValue;
+
+    ghost try_from_gives = { λ n r. r ≡ read places n };
+
+    fn try_from(number: u16) -> Result<Place, NoSuchValue> {
         match number {
-            0 => Some(Position::Normal),
-            1 => Some(Position::Reversed),
-            _ => None,
+            0 => Ok(Place::Arrived),
+            1 => Ok(Place::Returned),
+            _ => Err(NoSuchValue(number)),
         }
     }
 }
@@ -126,15 +194,36 @@ impl Numbered for Position {
 impl Numbered for Place {
     ghost field = { places };
 
+    ghost reads = { λ n r e. e };
+
     ghost reads_back = { Prim.search rules };
 
     ghost one_number = { Prim.search rules };
+}
 
-    fn from_number(number: u16) -> Option<Place> {
+impl TryFrom<u16> for Kind {
+    type Error = NoSuchValue;
+
+    ghost try_from_gives = { λ n r. r ≡ read kinds n };
+
+    fn try_from(number: u16) -> Result<Kind, NoSuchValue> {
         match number {
-            0 => Some(Place::Arrived),
-            1 => Some(Place::Returned),
-            _ => None,
+            0 => Ok(Kind::Call),
+            1 => Ok(Kind::Answer),
+            2 => Ok(Kind::Send),
+            3 => Ok(Kind::Acknowledge),
+            4 => Ok(Kind::Error),
+            5 => Ok(Kind::StopControl),
+            6 => Ok(Kind::HomeControl),
+            7 => Ok(Kind::Enters),
+            8 => Ok(Kind::Leave),
+            9 => Ok(Kind::TrolleyStarts),
+            10 => Ok(Kind::TrolleyEnds),
+            11 => Ok(Kind::Fails),
+            12 => Ok(Kind::Reset),
+            13 => Ok(Kind::Resume),
+            14 => Ok(Kind::Roll),
+            _ => Err(NoSuchValue(number)),
         }
     }
 }
@@ -142,28 +231,9 @@ impl Numbered for Place {
 impl Numbered for Kind {
     ghost field = { kinds };
 
+    ghost reads = { λ n r e. e };
+
     ghost reads_back = { Prim.search rules };
 
     ghost one_number = { λ n x. listed_back kind_number every_kind n x };
-
-    fn from_number(number: u16) -> Option<Kind> {
-        match number {
-            0 => Some(Kind::Call),
-            1 => Some(Kind::Answer),
-            2 => Some(Kind::Send),
-            3 => Some(Kind::Acknowledge),
-            4 => Some(Kind::Error),
-            5 => Some(Kind::StopControl),
-            6 => Some(Kind::HomeControl),
-            7 => Some(Kind::Enters),
-            8 => Some(Kind::Leave),
-            9 => Some(Kind::TrolleyStarts),
-            10 => Some(Kind::TrolleyEnds),
-            11 => Some(Kind::Fails),
-            12 => Some(Kind::Reset),
-            13 => Some(Kind::Resume),
-            14 => Some(Kind::Roll),
-            _ => None,
-        }
-    }
 }

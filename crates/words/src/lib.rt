@@ -2,4 +2,3 @@
 #![tactic(auto)]
 
 pub mod event_words;
-mod words;
