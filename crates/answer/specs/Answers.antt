@@ -1,7 +1,7 @@
 -- The numbers of answers, and how a list of needs is judged. Assumes nothing.
 use Rattle.std.specs.Prelude.{ℕ, Bool, cond, List, [], ◌∷◌, Ok, Err, Result}
-use Rattle.answer.specs.declared.Answer.{Answer}
-use Rattle.answer.specs.declared.Answer.TheVariants.{Accepted, PassedAtOn, LeftUnexpected, Refused}
+use Rattle.answer.specs.declared.Outcome.{Outcome}
+use Rattle.answer.specs.declared.Outcome.TheVariants.{Accepted, PassedAtOn, LeftUnexpected}
 use Rattle.answer.specs.declared.Refusal.{Refusal}
 use Rattle.answer.specs.declared.Refusal.TheVariants as refusal
 
@@ -18,11 +18,18 @@ refusal_number refusal.DetectorNotClear = 11
 refusal_number refusal.NotArrived = 12
 refusal_number refusal.CallNotNeeded = 13
 
+abbrev pub outcome_number : Outcome → ℕ
+outcome_number Accepted = 0
+outcome_number PassedAtOn = 90
+outcome_number LeftUnexpected = 91
+
+-- what an event is answered with
+abbrev pub Answer : Type 0
+Answer = Result Outcome Refusal
+
 abbrev pub answer_number : Answer → ℕ
-answer_number Accepted = 0
-answer_number PassedAtOn = 90
-answer_number LeftUnexpected = 91
-answer_number (Refused r) = refusal_number r
+answer_number (Ok outcome) = outcome_number outcome
+answer_number (Err refusal) = refusal_number refusal
 
 -- what an event needs, in the order in which it is looked at: a condition, and the refusal where it fails
 abbrev pub Needs : Type 0
@@ -45,8 +52,3 @@ unless_refused (Err _) new old = old
 abbrev pub given_that : {A : Type 0} → Verdict → A → Result A Refusal
 given_that (Ok _) x = Ok x
 given_that (Err r) x = Err r
-
--- the answer where nothing is refused is told by the rules of the event
-abbrev pub answered : Verdict → Answer → Answer
-answered (Ok _) a = a
-answered (Err r) a = Refused r

@@ -1,11 +1,11 @@
-// What an event is answered with, and how the first need that fails becomes a refusal.
+// What an event is answered with, and how a need that fails becomes a refusal.
 #![tactic(auto)]
 
-ghost use Rattle.std.specs.Prelude.{◌≡◌};
-ghost use Rattle.answer.specs.Answers.{answer_number, checked, refusal_number};
+ghost use Rattle.std.specs.Prelude.{◌≡◌, [], ◌∷◌};
+ghost use Rattle.answer.specs.Answers.{answer_number, checked, outcome_number, refusal_number};
 
 // Why an event is refused. A discriminant is the refusal's number.
-#[derive(Clone, Copy)]
+#[derive(Clone, Copy, Debug, PartialEq, Eq)]
 pub enum Refusal {
     // The axles or the track of the event are outside their values.
     OutsideValues = 3,
@@ -31,45 +31,48 @@ pub enum Refusal {
     CallNotNeeded = 13,
 }
 
-#[derive(Clone, Copy)]
-pub enum Answer {
-    Accepted,
+// How an event is answered that is not refused. A discriminant is the answer's number.
+#[derive(Clone, Copy, Debug, PartialEq, Eq)]
+pub enum Outcome {
+    Accepted = 0,
     // A train passed the stop signal at on.
-    PassedAtOn,
+    PassedAtOn = 90,
     // Axles left a line that no train had used.
-    LeftUnexpected,
-    Refused(Refusal),
+    LeftUnexpected = 91,
 }
 
-impl Refusal {
-    pub fn number(self) -> u16
-        ensures { result ≡ refusal_number self }
-    {
-        self as u16
+// What an event is answered with.
+pub type Answer = Result<Outcome, Refusal>;
+
+impl From<Refusal> for u16 {
+    ghost from_gives = { λ refusal n. n ≡ refusal_number refusal };
+
+    fn from(refusal: Refusal) -> u16 {
+        refusal as u16
     }
 }
 
-impl Answer {
-    pub fn number(self) -> u16
-        ensures { result ≡ answer_number self }
-    {
-        match self {
-            Answer::Accepted => 0,
-            Answer::PassedAtOn => 90,
-            Answer::LeftUnexpected => 91,
-            Answer::Refused(refusal) => refusal.number(),
-        }
+impl From<Outcome> for u16 {
+    ghost from_gives = { λ outcome n. n ≡ outcome_number outcome };
+
+    fn from(outcome: Outcome) -> u16 {
+        outcome as u16
     }
 }
 
-// Needs are looked at in their order, and the first that does not hold is the refusal.
-pub fn first_failing(needs: &[(bool, Refusal)]) -> Result<(), Refusal>
-    ensures { result ≡ checked needs.now }
+// The number that stands for an answer.
+pub fn number_of(answer: Answer) -> u16
+    ensures { result ≡ answer_number answer }
 {
-    for (holds, refusal) in needs {
-        if !*holds {
-            return Err(*refusal);
-        }
+    match answer {
+        Ok(outcome) => outcome.into(),
+        Err(refusal) => refusal.into(),
     }
-    Ok(())
+}
+
+// One need of an event: where it does not hold, the event is refused for it.
+pub fn need(holds: bool, refusal: Refusal) -> Result<(), Refusal>
+    ensures { result ≡ checked ((holds, refusal) ∷ []) }
+{
+    if holds { Ok(()) } else { Err(refusal) }
 }

@@ -10,7 +10,7 @@ ghost use Rattle.detector.specs.Meaning.{counted_in, counted_out, failing, resto
 pub const LIMIT: u16 = 1000;
 
 // What a detector shows.
-#[derive(Clone, Copy)]
+#[derive(Clone, Copy, Debug, PartialEq, Eq)]
 pub enum Reading {
     Clear,
     Occupied,
@@ -18,7 +18,7 @@ pub enum Reading {
 }
 
 // What a detector is told, as a value.
-#[derive(Clone, Copy)]
+#[derive(Clone, Copy, Debug, PartialEq, Eq)]
 pub enum Action {
     CountIn(u16),
     CountOut(u16),

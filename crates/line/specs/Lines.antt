@@ -1,8 +1,8 @@
 -- What the controls, trains, trolleys and calls need of a line, and what they do. Assumes nothing.
 use Rattle.std.specs.Prelude.{ℕ, Bool, false, cond, not, ◌&&◌, [], ◌∷◌, Some, None, Option}
 use Rattle.answer.specs.Answers.{Needs}
-use Rattle.answer.specs.declared.Answer.{Answer}
-use Rattle.answer.specs.declared.Answer.TheVariants.{Accepted, PassedAtOn, LeftUnexpected}
+use Rattle.answer.specs.declared.Outcome.{Outcome}
+use Rattle.answer.specs.declared.Outcome.TheVariants.{Accepted, PassedAtOn, LeftUnexpected}
 use Rattle.answer.specs.declared.Refusal.TheVariants as refusal
 use Rattle.detector.specs.Meaning.{reading_is}
 use Rattle.detector.specs.declared.Reading.{Reading}
@@ -41,14 +41,14 @@ home_control_needs Reversed r =
 -- Trains.
 
 -- a train that enters uses the line clear where the stop signal is off, and else has passed it at on
-abbrev pub entering_answer : Row → Answer
+abbrev pub entering_answer : Row → Outcome
 entering_answer r = cond (is_off r.signals.stop) Accepted PassedAtOn
 
 abbrev pub entering_makes : ℕ → Row → Change
 entering_makes k r = cond (is_off r.signals.stop) (passed k) (passed_at_on k)
 
 -- axles are expected to leave only where a train has used the line clear
-abbrev pub leaving_answer : Row → Answer
+abbrev pub leaving_answer : Row → Outcome
 leaving_answer r = cond (used_train r.permission) Accepted LeftUnexpected
 
 abbrev pub leaving_makes : ℕ → Row → Change

@@ -20,13 +20,19 @@ pub struct Line {
 fn is_consistent(row: Row) -> bool
     ensures { result ≡ consistent row }
 {
-    let closed = matches!(row.permission.needle, Needle::Closed);
-    let clear = matches!(row.permission.needle, Needle::Clear);
-    let nothing = matches!(row.permission.permit, Permit::Nothing);
-    let train = matches!(row.permission.permit, Permit::Train);
-    let reversed = matches!(row.signals.stop_control, Position::Reversed);
-    let due = clear && !row.permission.used && reversed && !row.signals.suspended;
-    closed == nothing && (!clear || train) && (matches!(row.signals.stop, Signal::On) || due)
+    let Row {
+        permission,
+        signals,
+        ..
+    } = row;
+    let clear = permission.needle == Needle::Clear;
+    let due = clear
+        && !permission.used
+        && signals.stop_control == Position::Reversed
+        && !signals.suspended;
+    (permission.needle == Needle::Closed) == (permission.permit == Permit::Nothing)
+        && (!clear || permission.permit == Permit::Train)
+        && (signals.stop == Signal::On || due)
 }
 
 impl Line {

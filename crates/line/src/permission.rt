@@ -23,40 +23,35 @@ impl Permission {
     pub(crate) fn clear_for_train(self) -> bool
         ensures { result ≡ clear_for_train self }
     {
-        matches!((self.needle, self.permit), (Needle::Clear, Permit::Train)) && !self.used
+        self.needle == Needle::Clear && self.permit == Permit::Train && !self.used
     }
 
     pub(crate) fn used_train(self) -> bool
         ensures { result ≡ used_train self }
     {
-        matches!(self.permit, Permit::Train) && self.used
+        self.permit == Permit::Train && self.used
     }
 
     pub(crate) fn unused_trolley(self) -> bool
         ensures { result ≡ unused_trolley self }
     {
-        matches!(self.permit, Permit::Trolley) && !self.used
+        self.permit == Permit::Trolley && !self.used
     }
 
     // A trolley is on the line.
     pub(crate) fn running_trolley(self) -> bool
         ensures { result ≡ running_trolley self }
     {
-        matches!((self.permit, self.end), (Permit::Trolley, End::NotEnded)) && self.used
+        self.permit == Permit::Trolley && self.used && self.end == End::NotEnded
     }
 
     // A train or a trolley is coming, and has not ended.
     pub(crate) fn is_coming(self) -> bool
         ensures { result ≡ is_coming self }
     {
-        matches!(
-            (self.needle, self.permit, self.end),
-            (
-                Needle::TrainOnLine,
-                Permit::Train | Permit::Trolley,
-                End::NotEnded,
-            )
-        )
+        self.needle == Needle::TrainOnLine
+            && matches!(self.permit, Permit::Train | Permit::Trolley)
+            && self.end == End::NotEnded
     }
 
     pub(crate) fn now_used(self) -> Permission

@@ -4,7 +4,7 @@ ghost use Rattle.line.specs.Codes.{role_of};
 
 use events::field::{Direction, Station};
 
-#[derive(Clone, Copy)]
+#[derive(Clone, Copy, Debug, PartialEq, Eq)]
 pub enum Role {
     Despatching,
     Receiving,

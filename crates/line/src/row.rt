@@ -5,14 +5,14 @@ ghost use Rattle.line.specs.Records.{fresh_row};
 use events::field::{Position, Station};
 
 // What the three needles of a line show: the receiving station's commutator and both needles move as one.
-#[derive(Clone, Copy)]
+#[derive(Clone, Copy, Debug, PartialEq, Eq)]
 pub enum Needle {
     Closed,
     Clear,
     TrainOnLine,
 }
 
-#[derive(Clone, Copy)]
+#[derive(Clone, Copy, Debug, PartialEq, Eq)]
 pub enum Permit {
     Nothing,
     Train,
@@ -24,21 +24,21 @@ pub enum Permit {
 }
 
 // How the train or the trolley that used a permit came off the line.
-#[derive(Clone, Copy)]
+#[derive(Clone, Copy, Debug, PartialEq, Eq)]
 pub enum End {
     NotEnded,
     Arrived,
     Returned,
 }
 
-#[derive(Clone, Copy)]
+#[derive(Clone, Copy, Debug, PartialEq, Eq)]
 pub enum Signal {
     On,
     Off,
 }
 
 // What is permitted, and what has become of it.
-#[derive(Clone, Copy)]
+#[derive(Clone, Copy, Debug, PartialEq, Eq)]
 pub struct Permission {
     pub needle: Needle,
     pub permit: Permit,
@@ -47,7 +47,7 @@ pub struct Permission {
 }
 
 // The stop signal and its control at the despatching station, the home signal and its control at the receiving one.
-#[derive(Clone, Copy)]
+#[derive(Clone, Copy, Debug, PartialEq, Eq)]
 pub struct Signals {
     pub stop: Signal,
     pub home: Signal,
@@ -57,13 +57,13 @@ pub struct Signals {
 }
 
 // Which station has called for a reset of the detector, and which for a resumption, where one has.
-#[derive(Clone, Copy)]
+#[derive(Clone, Copy, Debug, PartialEq, Eq)]
 pub struct Calls {
     pub reset: Option<Station>,
     pub resume: Option<Station>,
 }
 
-#[derive(Clone, Copy)]
+#[derive(Clone, Copy, Debug, PartialEq, Eq)]
 pub struct Row {
     pub permission: Permission,
     pub signals: Signals,

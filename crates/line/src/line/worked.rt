@@ -2,23 +2,13 @@
 ghost use Rattle.std.specs.Prelude.{◌≡◌, ℕ};
 ghost use Rattle.answer.specs.Answers.{checked, given_that, unless_refused};
 ghost use Rattle.line.specs.Changes.{action_of, call_kept, home_moved, reset_called, resume_called, row_after, settled, suspended, trolley_ended, trolley_started};
-ghost use Rattle.line.specs.Lines.{called_by, entering_answer, entering_makes, home_control_needs, leaving_answer, leaving_makes, reset_needs, resume_needs, stop_control_makes, stop_control_needs, trolley_end_needs, trolley_start_needs};
+ghost use Rattle.line.specs.Lines.{entering_answer, entering_makes, home_control_needs, leaving_answer, leaving_makes, reset_needs, resume_needs, stop_control_makes, stop_control_needs, trolley_end_needs, trolley_start_needs};
 
 use super::Line;
-use crate::row::{Needle, Permission, Permit, Signal};
-use answer::{Answer, Refusal, first_failing};
+use crate::row::{Needle, Permission, Permit, Row, Signal};
+use answer::{Outcome, Refusal, need};
 use detector::{Action, Reading};
 use events::field::{Place, Position, Station};
-
-// Whether the station has called already.
-fn called_by(station: Station, kept: Option<Station>) -> bool
-    ensures { result ≡ called_by station kept }
-{
-    match kept {
-        Some(first) => station == first,
-        None => false,
-    }
-}
 
 // Whose call is kept after one more: the first is, and the second, which completes, leaves nobody's.
 fn call_kept(station: Station, kept: Option<Station>) -> Option<Station>
@@ -36,22 +26,21 @@ impl Line {
         ensures answer { result ≡ checked (stop_control_needs position reading self.old.row) }
         ensures row { self.new.row ≡ unless_refused (checked (stop_control_needs position reading self.old.row)) (row_after (stop_control_makes position) self.old.row) self.old.row }
     {
-        let signals = self.row.signals;
+        let Row {
+            permission,
+            signals,
+            ..
+        } = self.row;
         self.row.signals.stop = match position {
             Position::Normal => Signal::On,
             Position::Reversed => {
-                first_failing(&[
-                    (!signals.suspended, Refusal::LineSuspended),
-                    (
-                        self.row.permission.clear_for_train(),
-                        Refusal::RecordNotAsNeeded,
-                    ),
-                    (
-                        matches!(signals.stop_control, Position::Normal),
-                        Refusal::SignalOrControl,
-                    ),
-                    (matches!(reading, Reading::Clear), Refusal::DetectorNotClear),
-                ])?;
+                need(!signals.suspended, Refusal::LineSuspended)?;
+                need(permission.clear_for_train(), Refusal::RecordNotAsNeeded)?;
+                need(
+                    signals.stop_control == Position::Normal,
+                    Refusal::SignalOrControl,
+                )?;
+                need(reading == Reading::Clear, Refusal::DetectorNotClear)?;
                 Signal::Off
             }
         };
@@ -64,18 +53,20 @@ impl Line {
         ensures answer { result ≡ checked (home_control_needs position self.old.row) }
         ensures row { self.new.row ≡ unless_refused (checked (home_control_needs position self.old.row)) (row_after (home_moved position) self.old.row) self.old.row }
     {
-        let signals = self.row.signals;
+        let Row {
+            permission,
+            signals,
+            ..
+        } = self.row;
         self.row.signals.home = match position {
             Position::Normal => Signal::On,
             Position::Reversed => {
-                first_failing(&[
-                    (!signals.suspended, Refusal::LineSuspended),
-                    (self.row.permission.is_coming(), Refusal::RecordNotAsNeeded),
-                    (
-                        matches!(signals.home_control, Position::Normal),
-                        Refusal::SignalOrControl,
-                    ),
-                ])?;
+                need(!signals.suspended, Refusal::LineSuspended)?;
+                need(permission.is_coming(), Refusal::RecordNotAsNeeded)?;
+                need(
+                    signals.home_control == Position::Normal,
+                    Refusal::SignalOrControl,
+                )?;
                 Signal::Off
             }
         };
@@ -93,7 +84,7 @@ impl Line {
     }
 
     // A train enters: under its line clear where the stop signal is off; at on, the line is suspended.
-    pub fn enter(&mut self) -> Answer
+    pub fn enter(&mut self) -> Outcome
         ensures answer { result ≡ entering_answer self.old.row }
         ensures row { (axles : ℕ) → self.new.row ≡ row_after (entering_makes axles self.old.row) self.old.row }
     {
@@ -101,40 +92,38 @@ impl Line {
             Signal::Off => {
                 self.row.permission = self.row.permission.now_used();
                 self.row.signals.stop = Signal::On;
-                Answer::Accepted
+                Outcome::Accepted
             }
             Signal::On => {
                 self.suspend();
-                Answer::PassedAtOn
+                Outcome::PassedAtOn
             }
         }
     }
 
     // Axles leave: a train that used its line clear has arrived; where none has, the line is suspended.
-    pub fn leave(&mut self) -> Answer
+    pub fn leave(&mut self) -> Outcome
         ensures answer { result ≡ leaving_answer self.old.row }
         ensures row { (axles : ℕ) → self.new.row ≡ row_after (leaving_makes axles self.old.row) self.old.row }
     {
         if self.row.permission.used_train() {
             self.row.permission = self.row.permission.now_arrived();
             self.row.signals.home = Signal::On;
-            return Answer::Accepted;
+            return Outcome::Accepted;
         }
         self.suspend();
-        Answer::LeftUnexpected
+        Outcome::LeftUnexpected
     }
 
     pub fn start_trolley(&mut self) -> Result<(), Refusal>
         ensures answer { result ≡ checked (trolley_start_needs self.old.row) }
         ensures row { self.new.row ≡ unless_refused (checked (trolley_start_needs self.old.row)) (row_after trolley_started self.old.row) self.old.row }
     {
-        first_failing(&[
-            (!self.row.signals.suspended, Refusal::LineSuspended),
-            (
-                self.row.permission.unused_trolley(),
-                Refusal::RecordNotAsNeeded,
-            ),
-        ])?;
+        need(!self.row.signals.suspended, Refusal::LineSuspended)?;
+        need(
+            self.row.permission.unused_trolley(),
+            Refusal::RecordNotAsNeeded,
+        )?;
         self.row.permission = self.row.permission.now_used();
         Ok(())
     }
@@ -143,10 +132,10 @@ impl Line {
         ensures answer { result ≡ checked (trolley_end_needs self.old.row) }
         ensures row { self.new.row ≡ unless_refused (checked (trolley_end_needs self.old.row)) (row_after (trolley_ended place) self.old.row) self.old.row }
     {
-        first_failing(&[(
+        need(
             self.row.permission.running_trolley(),
             Refusal::RecordNotAsNeeded,
-        )])?;
+        )?;
         self.row.permission = self.row.permission.now_ended(place);
         Ok(())
     }
@@ -161,13 +150,10 @@ impl Line {
         ensures row { self.new.row ≡ unless_refused (checked (reset_needs station reading self.old.row)) (row_after (reset_called station) self.old.row) self.old.row }
     {
         let kept = self.row.calls.reset;
-        let needed = matches!(reading, Reading::Failed) && !called_by(station, kept);
-        first_failing(&[(needed, Refusal::CallNotNeeded)])?;
+        let needed = reading == Reading::Failed && kept != Some(station);
+        need(needed, Refusal::CallNotNeeded)?;
         self.row.calls.reset = call_kept(station, kept);
-        Ok(match kept {
-            Some(_) => Some(Action::Reset),
-            None => None,
-        })
+        Ok(kept.map(|_| Action::Reset))
     }
 
     // A station calls for working to be resumed. The other station's call completes it: the line is closed, with nothing permitted.
@@ -177,14 +163,10 @@ impl Line {
     {
         let kept = self.row.calls.resume;
         let signals = self.row.signals;
-        first_failing(&[
-            (
-                signals.suspended && !called_by(station, kept),
-                Refusal::CallNotNeeded,
-            ),
-            (signals.both_normal(), Refusal::SignalOrControl),
-            (matches!(reading, Reading::Clear), Refusal::DetectorNotClear),
-        ])?;
+        let needed = signals.suspended && kept != Some(station);
+        need(needed, Refusal::CallNotNeeded)?;
+        need(signals.both_normal(), Refusal::SignalOrControl)?;
+        need(reading == Reading::Clear, Refusal::DetectorNotClear)?;
         if kept.is_some() {
             self.row.permission = Permission::given(Needle::Closed, Permit::Nothing);
             self.row.signals.suspended = false;
@@ -197,7 +179,7 @@ impl Line {
     pub fn settle(&mut self, reading: Reading)
         ensures { self.new.row ≡ settled reading self.old.row }
     {
-        if !matches!(reading, Reading::Clear) {
+        if reading != Reading::Clear {
             self.row.signals.stop = Signal::On;
         }
     }
