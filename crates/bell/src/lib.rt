@@ -9,7 +9,7 @@ use answer::Refusal;
 use events::event::Event;
 use events::field::{Code, Direction, Station};
 
-#[derive(Clone, Copy)]
+#[derive(Clone, Copy, Debug, PartialEq, Eq)]
 pub enum Bell {
     Idle,
     // A station has called the other.

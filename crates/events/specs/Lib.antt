@@ -4,3 +4,4 @@ pub mod Written
 pub mod Listed
 pub mod Numbered
 pub mod Words
+pub mod Directions

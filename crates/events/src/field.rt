@@ -1,5 +1,6 @@
 // The values that the kind and the fields of an event take, and the word for each value of a field.
-ghost use Rattle.std.specs.Prelude.{Some};
+ghost use Rattle.std.specs.Prelude.{◌≡◌, Some};
+ghost use Rattle.events.specs.Directions.{other_direction};
 ghost use Rattle.events.specs.Words.{code_word, consent_word, line_word, place_word, position_word, station_word, turn_word};
 
 use std::fmt;
@@ -27,6 +28,18 @@ impl fmt::Display for Station {
 pub enum Direction {
     Up,
     Down,
+}
+
+impl Direction {
+    // The other line of the section.
+    pub fn other(self) -> Direction
+        ensures { result ≡ other_direction self }
+    {
+        match self {
+            Direction::Up => Direction::Down,
+            Direction::Down => Direction::Up,
+        }
+    }
 }
 
 impl fmt::Display for Direction {

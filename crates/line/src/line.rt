@@ -1,5 +1,5 @@
 // A line whose type says what every line record keeps.
-ghost use Rattle.std.specs.Prelude.{◌≡◌, true, false, MatchOption};
+ghost use Rattle.std.specs.Prelude.{◌≡◌, true, false, MatchResult};
 ghost use Rattle.line.specs.Records.{clear_with_train, closed_with_nothing, consistent, off_when_due};
 
 use crate::row::{Needle, Permit, Row, Signal};
@@ -35,23 +35,29 @@ fn is_consistent(row: Row) -> bool
         && (signals.stop == Signal::On || due)
 }
 
-impl Line {
-    // The line of a row, where the row keeps what every line record keeps.
-    pub fn from_row(row: Row) -> Option<Line>
-        ensures { MatchOption result (consistent row ≡ false) (λ l. (l.row ≡ row) × (consistent row ≡ true)) }
-    {
+// A row that does not keep what every line record keeps.
+#[derive(Clone, Copy, Debug, PartialEq, Eq)]
+pub struct Inconsistent;
+
+impl TryFrom<Row> for Line {
+    type Error = Inconsistent;
+
+    ghost try_from_gives = { λ row r. MatchResult r (λ l. (l.row ≡ row) × (consistent row ≡ true)) (λ _. consistent row ≡ false) };
+
+    fn try_from(row: Row) -> Result<Line, Inconsistent> {
         if is_consistent(row) {
-            Some(Line { row })
+            Ok(Line { row })
         } else {
-            None
+            Err(Inconsistent)
         }
     }
+}
 
-    // The row to write back.
-    pub fn into_row(self) -> Row
-        ensures row { result ≡ self.row }
-        ensures consistent { consistent result ≡ true }
-    {
-        self.row
+// The row to write back.
+impl From<Line> for Row {
+    ghost from_gives = { λ l row. (row ≡ l.row) × (consistent row ≡ true) };
+
+    fn from(line: Line) -> Row {
+        line.row
     }
 }

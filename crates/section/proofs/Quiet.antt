@@ -1,14 +1,11 @@
--- The bell codes and the stop control tell a detector nothing. Assumes nothing.
+-- The bell codes tell a detector nothing. Assumes nothing.
 use Rattle.std.proofs.Common.{◌≡◌, None, refl}
 use Rattle.events.specs.declared.field.Code.{Code}
 use Rattle.events.specs.declared.field.Code.TheVariants as code
 use Rattle.events.specs.declared.field.Consent.{Consent}
 use Rattle.events.specs.declared.field.Consent.TheVariants as consent
-use Rattle.events.specs.declared.field.Position.{Position}
-use Rattle.events.specs.declared.field.Position.TheVariants as position
 use Rattle.line.specs.Changes.{action_of}
 use Rattle.line.specs.Codes.{acknowledging_makes, consent_makes, sending_makes}
-use Rattle.line.specs.Lines.{stop_control_makes}
 use Rattle.line.specs.declared.role.Role.{Role}
 use Rattle.line.specs.declared.role.Role.TheVariants.{Despatching, Receiving}
 use Rattle.line.specs.declared.row.Row.{Row}
@@ -38,7 +35,3 @@ consent_tells code.BlockBack x r = refl
 pub acknowledging_tells : (c : Code) (x : Role) (y : Consent) (r : Row) → action_of (acknowledging_makes c x y) r ≡ None
 acknowledging_tells c x consent.Withheld r = refl
 acknowledging_tells c x consent.Given r = consent_tells c x r
-
-pub stop_control_tells : (p : Position) (r : Row) → action_of (stop_control_makes p) r ≡ None
-stop_control_tells position.Normal r = refl
-stop_control_tells position.Reversed r = refl

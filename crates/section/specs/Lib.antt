@@ -1,3 +1,4 @@
+pub mod PerLines
 pub mod Instruments
 pub mod Sections
 pub mod States

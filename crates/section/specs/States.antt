@@ -6,9 +6,7 @@ use Rattle.detector.specs.declared.Action.{Action}
 use Rattle.events.specs.declared.event.Event.{Event}
 use Rattle.events.specs.declared.field.Direction.{Direction}
 use Rattle.events.specs.declared.field.Direction.TheVariants.{Up, Down}
-use Rattle.section.specs.Sections.{actions_of, face_of, fresh_section, needs, section_after, section_settled}
-use Rattle.section.specs.declared.face.Face.{Face}
-use Rattle.section.specs.declared.section.Readings.{Readings}
+use Rattle.section.specs.Sections.{Face, Readings, actions_of, face_of, fresh_section, needs, section_after, section_settled}
 use Rattle.section.specs.declared.section.Section.{Section}
 
 pub record SectionState : Type 0 where

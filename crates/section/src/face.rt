@@ -2,12 +2,13 @@
 ghost use Rattle.std.specs.Prelude.{◌≡◌};
 ghost use Rattle.section.specs.Sections.{face_of, line_face_of};
 
+use crate::per_line::PerLine;
 use crate::section::{Readings, Section};
 use answer::Answer;
 use detector::Reading;
 use line::row::{Needle, Row, Signal};
 
-#[derive(Clone, Copy)]
+#[derive(Clone, Copy, Debug, PartialEq, Eq)]
 pub struct LineFace {
     pub needle: Needle,
     pub stop: Signal,
@@ -15,14 +16,10 @@ pub struct LineFace {
     pub reading: Reading,
 }
 
-#[derive(Clone, Copy)]
-pub struct Face {
-    pub up: LineFace,
-    pub down: LineFace,
-}
+pub type Face = PerLine<LineFace>;
 
 // What the register has of an event: its answer, and its section after it, where the bench has the section.
-#[derive(Clone, Copy)]
+#[derive(Clone, Copy, Debug, PartialEq, Eq)]
 pub struct Entry {
     pub answer: Answer,
     pub face: Option<Face>,
@@ -41,13 +38,14 @@ impl LineFace {
     }
 }
 
-impl Face {
-    pub fn of(section: Section, readings: Readings) -> Face
-        ensures { result ≡ face_of section readings }
+impl Section {
+    // What is shown of the section where its detectors read so.
+    pub fn face(&self, readings: Readings) -> Face
+        ensures { result ≡ face_of self.now readings }
     {
-        Face {
-            up: LineFace::of(section.up, readings.up),
-            down: LineFace::of(section.down, readings.down),
+        PerLine {
+            up: LineFace::of(self.lines.up, readings.up),
+            down: LineFace::of(self.lines.down, readings.down),
         }
     }
 }

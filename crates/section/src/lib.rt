@@ -3,4 +3,5 @@
 
 pub mod face;
 pub mod instruments;
+pub mod per_line;
 pub mod section;

@@ -2,36 +2,28 @@
 ghost use Rattle.std.specs.Prelude.{◌≡◌};
 ghost use Rattle.section.specs.Sections.{fresh_section};
 
-use answer::Answer;
+use crate::per_line::PerLine;
+use answer::Outcome;
 use bell::Bell;
 use detector::{Action, Reading};
 use line::row::Row;
 
-#[derive(Clone, Copy)]
+#[derive(Clone, Copy, Debug, PartialEq, Eq)]
 pub struct Section {
     pub bell: Bell,
-    pub up: Row,
-    pub down: Row,
+    pub lines: PerLine<Row>,
 }
 
 // What the detectors of the two lines read.
-#[derive(Clone, Copy)]
-pub struct Readings {
-    pub up: Reading,
-    pub down: Reading,
-}
+pub type Readings = PerLine<Reading>;
 
 // What the detectors of the two lines are told.
-#[derive(Clone, Copy)]
-pub struct Actions {
-    pub up: Option<Action>,
-    pub down: Option<Action>,
-}
+pub type Actions = PerLine<Option<Action>>;
 
 // The answer to an event that was not refused, and what the detectors are to be told by it.
-#[derive(Clone, Copy)]
+#[derive(Clone, Copy, Debug, PartialEq, Eq)]
 pub struct Worked {
-    pub answer: Answer,
+    pub outcome: Outcome,
     pub actions: Actions,
 }
 
@@ -42,8 +34,10 @@ impl Section {
     {
         Section {
             bell: Bell::Idle,
-            up: Row::fresh(),
-            down: Row::fresh(),
+            lines: PerLine {
+                up: Row::fresh(),
+                down: Row::fresh(),
+            },
         }
     }
 }

@@ -1,13 +1,20 @@
-use Rattle.std.proofs.Common.{ap, ◌∙◌}
-use Rattle.section.specs.Instruments.{section_of}
-use Rattle.section.specs.Sections.{suspended_beside}
-use Rattle.section.proofs.Works.{leaving_work}
+use Rattle.std.proofs.Common.{rules, arith, ◌≡◌, true, false, sym, ◌∙◌}
+use Rattle.line.specs.Records.{used_train}
+use Rattle.section.proofs.Works.{left_as_expected, left_unexpectedly}
 use Rattle.section.proofs.instruments.Instruments.leave.Goals as goal
 
-pub returns : goal.returns
-returns c =
-    let work =
-    leaving_work c.args.line (section_of c.args.self.now) c.args.axles c.line-at.result.row c.leave-answer.new.self.row c.leave-answer.result
-    c.line-at.ensures c.leave-answer.ensures.answer (c.leave-answer.ensures.row c.args.axles) in
-    let written = ap (suspended_beside c.leave-answer.result c.args.line) c.put.ensures in
-    record { answer = c.telling.ensures ∙ work.0; section = c.suspend_beside.ensures ∙ written ∙ work.1 }
+pub returns-then-eq-clause-section : goal.returns-then-eq-clause-section
+returns-then-eq-clause-section c axles =
+    let line = c.on_mut.ensures.value in
+    let answered = c.leave-outcome.ensures.answer in
+    let tested = sym c.eq.ensures ∙ c.if-eq.true in
+    let unused : used_train c.on_mut.result.now.row.permission ≡ false = grind (rw answered at tested, arith) in
+    rw c.other.ensures (left_unexpectedly c.args.line c.args.self.now axles _ _ (rw line at unused) (rw line at c.leave-outcome.ensures.row axles) (search rules))
+
+pub returns-else-eq-clause-section : goal.returns-else-eq-clause-section
+returns-else-eq-clause-section c axles =
+    let line = c.on_mut.ensures.value in
+    let answered = c.leave-outcome.ensures.answer in
+    let tested = sym c.eq.ensures ∙ c.if-eq.false in
+    let used : used_train c.on_mut.result.now.row.permission ≡ true = grind (rw answered at tested, arith) in
+    left_as_expected c.args.line c.args.self.now axles _ (rw line at used) (rw line at c.leave-outcome.ensures.row axles)
