@@ -2,7 +2,7 @@
 use Rattle.std.proofs.Common.{◌≡◌, ℕ, Bool, true, false, eqb, ◌⊎◌, length, set, Ok, Err, sym, refl, subst, inl, inr, length-set}
 use Rattle.std.proofs.lemmas.List.{get_or-set_other, get_or-set_same}
 use Rattle.std.proofs.lemmas.Bool.{eqb-false, eqb-true, ltb-true}
-use Rattle.answer.specs.Answers.{Verdict, answered, unless_refused}
+use Rattle.answer.specs.Answers.{Verdict, given_that, unless_refused}
 use Rattle.answer.specs.declared.Refusal.{Refusal}
 use Rattle.events.specs.declared.event.SectionEvent.{SectionEvent}
 use Rattle.section.specs.Sections.{outcome}
@@ -51,7 +51,7 @@ module _ (b : BenchState) (e : SectionEvent) (h : History) where
   judged_step v = record {
     event = e;
     before = b;
-    answer = answered v (outcome (section_at e.section b).section e.event);
+    answer = given_that v (outcome (section_at e.section b).section e.event);
     after = unless_refused v (bench_worked b e) b;
   }
 

@@ -31,7 +31,8 @@ use Rattle.line.specs.declared.row.End.TheVariants.{Arrived, Returned}
 use Rattle.line.specs.declared.row.Needle.TheVariants.{Closed, Clear, TrainOnLine}
 use Rattle.line.specs.declared.row.Permit.TheVariants.{Trolley}
 use Rattle.line.specs.declared.row.Row.{Row}
-use Rattle.section.specs.Sections.{beside_leaving, change_on, on_line, on_or_beside, pending_makes, pending_needs, reading_on, row_of}
+use Rattle.section.specs.PerLines.{on}
+use Rattle.section.specs.Sections.{beside_leaving, change_on, on_line, on_or_beside, pending_makes, pending_needs, row_of}
 use Rattle.section.specs.States.{SectionState, detector_on, state_needs, state_readings}
 
 -- the record and the detector of a line before a change
@@ -154,7 +155,7 @@ module _ (v : SectionState) where
   abbrev detector : Direction → Meaning
   detector l = detector_on l v
 
-  seen : (n : Direction) → reading_on n (state_readings v) ≡ reading_of (detector n)
+  seen : (n : Direction) → on n (state_readings v) ≡ reading_of (detector n)
   seen Up = refl
   seen Down = refl
 

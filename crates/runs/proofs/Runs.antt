@@ -1,7 +1,7 @@
 -- The laws over every run, and what a loop over the events of a run needs. Assumes nothing.
 use Rattle.std.proofs.Common.{◌≡◌, ℕ, ◌<◌, List, [], ◌∷◌, ◌++◌, length, sym, refl, ap, ◌∙◌, subst}
 use lib.ListN.{get_or-replicate, length-replicate}
-use Rattle.answer.specs.declared.Answer.{Answer}
+use Rattle.answer.specs.Answers.{Answer}
 use Rattle.events.specs.declared.event.SectionEvent.{SectionEvent}
 use Rattle.section.specs.States.{SectionState, detector_on, fresh_state}
 use Rattle.section.specs.declared.face.Entry.{Entry}

@@ -1,7 +1,6 @@
 -- What every run keeps of one section, over an event in it, a refused event and an event elsewhere. Assumes nothing.
-use Rattle.std.proofs.Common.{◌≡◌, ℕ, Bool, true, false, cond, ◌&&◌, eqb, List, refl}
+use Rattle.std.proofs.Common.{◌≡◌, ℕ, Bool, true, false, cond, ◌&&◌, eqb, List, refl, Ok, Err}
 use Rattle.answer.specs.Answers.{answer_number, refusal_number}
-use Rattle.answer.specs.declared.Answer.TheVariants.{Refused}
 use Rattle.answer.specs.declared.Refusal.{Refusal}
 use Rattle.answer.specs.declared.Refusal.TheVariants as refusal
 use Rattle.bell.specs.Bells.{bell_after}
@@ -50,7 +49,7 @@ between p x v became = record { off = refl; clear = rw became refl }
 
 -- the bell keeps what was sent
 heard_after : (b : Bell) (sent : List ℕ) (s : Section) (e : Event) → Heard b sent
-    → Heard (bell_after b e) (cond (is_kind kind.Send e && eqb (answer_number (outcome s e)) 0) (fields_in e) sent)
+    → Heard (bell_after b e) (cond (is_kind kind.Send e && eqb (answer_number (Ok (outcome s e))) 0) (fields_in e) sent)
 heard_after b sent s (event.Call a) o = tt
 heard_after b sent s (event.Answer a) o = tt
 heard_after b sent s (event.Send l a c t) o = (refl, refl, refl)
@@ -72,7 +71,7 @@ module _ (i j : ℕ) (e : Event) (before after : BenchState) (h : History) (here
   state = section_at i before
 
   abbrev accepted : Step
-  accepted = record { event = record { section = j; event = e }; before = before; answer = outcome state.section e; after = after }
+  accepted = record { event = record { section = j; event = e }; before = before; answer = Ok (outcome state.section e); after = after }
 
   pub safe_after : Holds (state_needs state e) → section_at i after ≡ state_after state e → Safe i state h → Safe i (state_after state e) (h ▸ accepted)
   safe_after ok became safe = record {
@@ -87,8 +86,8 @@ module _ (i j : ℕ) (e : Event) (before after : BenchState) (h : History) (here
       stands l = between (line_of i l) accepted (state_after state e) became
 
       lines : (l : Direction) → Kept (row_of l (state_after state e).section) (detector_on l (state_after state e)) (line_of i l) (h ▸ accepted)
-      lines Up = kept_after state.section.up state.up (line_of i Up) accepted h (change_on Up state.section e) (legal state Up e ok) (says Up) (stands Up) (safe.lines Up)
-      lines Down = kept_after state.section.down state.down (line_of i Down) accepted h (change_on Down state.section e) (legal state Down e ok) (says Down) (stands Down) (safe.lines Down)
+      lines Up = kept_after state.section.lines.up state.up (line_of i Up) accepted h (change_on Up state.section e) (legal state Up e ok) (says Up) (stands Up) (safe.lines Up)
+      lines Down = kept_after state.section.lines.down state.down (line_of i Down) accepted h (change_on Down state.section e) (legal state Down e ok) (says Down) (stands Down) (safe.lines Down)
 
 -- An event that leaves the section as it was.
 
@@ -125,9 +124,9 @@ unsent true false new old = refl
 unsent false b new old = refl
 
 pub safe_refused : (i : ℕ) (r : Refusal) (e : SectionEvent) (b : BenchState) (h : History) → Safe i (section_at i b) h
-    → Safe i (section_at i b) (h ▸ record { event = e; before = b; answer = Refused r; after = b })
+    → Safe i (section_at i b) (h ▸ record { event = e; before = b; answer = Err r; after = b })
 safe_refused i r e b h safe =
-    let x : Step = record { event = e; before = b; answer = Refused r; after = b } in
+    let x : Step = record { event = e; before = b; answer = Err r; after = b } in
     let a = apart r in
     safe_still i x h refl (rw a.0 (unsent (eqb e.section i) (is_kind kind.Send e.event) (fields_in e.event) (last_send i h)))
     (λ l. says_nothing_refused (line_of i l) x h a.0 a.1 a.2) safe

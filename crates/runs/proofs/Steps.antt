@@ -1,10 +1,10 @@
 -- What a step says of a line: that which the rules made of it, and nothing where it is refused or elsewhere.
 -- Assumes nothing.
-use Rattle.std.proofs.Common.{◌≡◌, ℕ, Bool, true, false, cond, eqb, List, get_or, refl, subst, arith}
+use Rattle.std.proofs.Common.{◌≡◌, ℕ, Bool, true, false, cond, eqb, Ok, List, get_or, refl, subst, arith}
 use Rattle.std.proofs.lemmas.Bool.{both_ways}
 use Rattle.std.proofs.lemmas.Bool.Decides.{nat_tests}
-use Rattle.answer.specs.declared.Answer.{Answer}
-use Rattle.answer.specs.declared.Answer.TheVariants.{Accepted, PassedAtOn, LeftUnexpected}
+use Rattle.answer.specs.declared.Outcome.{Outcome}
+use Rattle.answer.specs.declared.Outcome.TheVariants.{Accepted, PassedAtOn, LeftUnexpected}
 use Rattle.bell.specs.Bells.{bell_ready}
 use Rattle.bell.specs.declared.Bell.{Bell}
 use Rattle.bell.specs.declared.Bell.TheVariants.{Idle, Called, Attentive, Pending}
@@ -58,8 +58,8 @@ same_direction Down Down e = refl
 
 module _ (i j : ℕ) (l : Direction) (before after : BenchState) (h : History) (here : eqb j i ≡ true) where
   -- the step of an event in the section i, with its answer, says that the change c happens to its line l
-  abbrev Said : Change → Event → Answer → Type 0
-  Said c e y = Says c (record { section = i; line = l }) (record { event = record { section = j; event = e }; before = before; answer = y; after = after }) h
+  abbrev Said : Change → Event → Outcome → Type 0
+  Said c e y = Says c (record { section = i; line = l }) (record { event = record { section = j; event = e }; before = before; answer = Ok y; after = after }) h
 
   -- Events on the line.
 
@@ -107,14 +107,14 @@ module _ (i j : ℕ) (l : Direction) (before after : BenchState) (h : History) (
   unfolding words
   consent_says_beside a y t d = grind (arith, nat_tests)
 
-  says_nothing_beside : (e : Event) (y : Answer) → is_kind kind.Acknowledge e ≡ false → is_kind kind.Leave e ≡ false
+  says_nothing_beside : (e : Event) (y : Outcome) → is_kind kind.Acknowledge e ≡ false → is_kind kind.Leave e ≡ false
       → eqb (direction_number l) (field 0 e) ≡ false → Said unchanged e y
   unfolding words
   says_nothing_beside e y a b d = grind (arith, nat_tests)
 
   -- Events on either.
 
-  named_says : (m : Direction) (own beside : Direction → Change) (e : Direction → Event) (y : Direction → Answer)
+  named_says : (m : Direction) (own beside : Direction → Change) (e : Direction → Event) (y : Direction → Outcome)
       → (l ≡ m → Said (own l) (e l) (y l)) → (direction_is l m ≡ false → Said (beside m) (e m) (y m))
       → Said (on_or_beside l m (own m) (beside m)) (e m) (y m)
   named_says m own beside e y on_it off_it = go (direction_is l m) refl

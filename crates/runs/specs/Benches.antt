@@ -1,13 +1,12 @@
 -- The rules of the bench: any event, at any section number, over what the detectors mean. Assumes nothing.
 use Rattle.std.specs.Prelude.{ℕ, cond, List, ◌∷◌, length, replicate, Some, None, Option, nat_lt, slice_index_or, slice_set}
-use Rattle.answer.specs.Answers.{Needs, Verdict, answered, checked, unless_refused}
-use Rattle.answer.specs.declared.Answer.{Answer}
+use Rattle.answer.specs.Answers.{Answer, Needs, Verdict, checked, given_that, unless_refused}
+use Rattle.answer.specs.declared.Outcome.{Outcome}
 use Rattle.answer.specs.declared.Refusal.TheVariants.{NoSection, OutsideValues}
 use Rattle.events.specs.Written.{within_values}
 use Rattle.events.specs.declared.event.SectionEvent.{SectionEvent}
-use Rattle.section.specs.Sections.{outcome}
+use Rattle.section.specs.Sections.{Face, outcome}
 use Rattle.section.specs.States.{SectionState, fresh_state, state_after, state_face, state_needs}
-use Rattle.section.specs.declared.face.Face.{Face}
 
 abbrev pub BenchState : Type 0
 BenchState = List SectionState
@@ -32,12 +31,12 @@ bench_needs b e =
 abbrev pub verdict_at : BenchState → SectionEvent → Verdict
 verdict_at b e = checked (bench_needs b e)
 
--- the answer where nothing is refused
-abbrev pub outcome_at : BenchState → SectionEvent → Answer
+-- how an event is answered where nothing is refused
+abbrev pub outcome_at : BenchState → SectionEvent → Outcome
 outcome_at b e = outcome (section_at e.section b).section e.event
 
 abbrev pub answer_at : BenchState → SectionEvent → Answer
-answer_at b e = answered (verdict_at b e) (outcome_at b e)
+answer_at b e = given_that (verdict_at b e) (outcome_at b e)
 
 -- a refused event leaves the bench as it was
 abbrev pub bench_after : BenchState → SectionEvent → BenchState

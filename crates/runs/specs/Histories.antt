@@ -1,7 +1,7 @@
 -- The history of a run: its steps from the oldest to the newest, each with its event, its answer and the bench on both
 -- sides of it. Assumes nothing.
 use Rattle.std.specs.Prelude.{◌≡◌, List, [], ◌∷◌, ◌++◌}
-use Rattle.answer.specs.declared.Answer.{Answer}
+use Rattle.answer.specs.Answers.{Answer}
 use Rattle.events.specs.declared.event.SectionEvent.{SectionEvent}
 use Rattle.runs.specs.Benches.{BenchState, answer_at, bench_after, face_at}
 use Rattle.section.specs.declared.face.Entry.{Entry}
