@@ -1,5 +1,6 @@
 -- What can happen to a line, what its record becomes by it, and what its detector is told. Assumes nothing.
-use Rattle.std.specs.Prelude.{ℕ, Bool, true, false, cond, not, ◌&&◌, is_some, Some, None, Option}
+use Rattle.std.specs.Prelude.{◌≡◌, ℕ, Bool, true, false, cond, not, ◌&&◌, is_some, Some, None, Option}
+use Rattle.answer.specs.Answers.{Needs, Verdict, checked, unless_refused}
 use Rattle.detector.specs.Meaning.{reading_is}
 use Rattle.detector.specs.declared.Action.{Action}
 use Rattle.detector.specs.declared.Action.TheVariants as action
@@ -174,3 +175,8 @@ action_of (resume_called a) r = None
 -- a detector that does not read clear puts the stop signal on
 abbrev pub settled : Reading → Row → Row
 settled x r = with_signals (stop_on_unless (reading_is reading.Clear x) r.signals) r
+
+-- the line is asked for what is needed: where all of it holds, the change happens, and where not, nothing does
+pub record Judged (wanted : Needs) (change : Change) (old new : Row) (told : Verdict) : Type 0 where
+  pub answer : told ≡ checked wanted
+  pub row : new ≡ unless_refused (checked wanted) (row_after change old) old

@@ -2,7 +2,7 @@
 ghost use Rattle.std.specs.Prelude.{◌≡◌, false};
 ghost use Rattle.answer.specs.Answers.{checked, unless_refused};
 ghost use Rattle.events.specs.Tests.{turn_is};
-ghost use Rattle.line.specs.Changes.{row_after};
+ghost use Rattle.line.specs.Changes.{Judged, row_after};
 ghost use Rattle.line.specs.Codes.{acknowledge_needs, acknowledged_with, acknowledging_makes, code_needs, consent_makes, effective_when_sent, send_needs, sending_makes};
 
 use super::Line;
@@ -15,8 +15,7 @@ use events::field::{Consent, Turn};
 impl Line {
     // A code is sent. Train out, and obstruction removed by the receiving station, free the line at once.
     pub fn send(&mut self, sending: Sending, turn: Turn, reading: Reading) -> Result<(), Refusal>
-        ensures answer { result ≡ checked (send_needs sending.code sending.role turn reading self.old.row) }
-        ensures row { self.new.row ≡ unless_refused (checked (send_needs sending.code sending.role turn reading self.old.row)) (row_after (sending_makes sending.code sending.role) self.old.row) self.old.row }
+        ensures { Judged (send_needs sending.code sending.role turn reading self.old.row) (sending_makes sending.code sending.role) self.old.row self.new.row result }
     {
         need(sending.role_allows(), Refusal::WrongStation)?;
         sending.check(turn == sending.sent_with(), reading, self.row)?;
@@ -34,8 +33,7 @@ impl Line {
         turn: Turn,
         reading: Reading,
     ) -> Result<(), Refusal>
-        ensures answer { result ≡ checked (acknowledge_needs sending.code sending.role consent turn reading self.old.row) }
-        ensures row { self.new.row ≡ unless_refused (checked (acknowledge_needs sending.code sending.role consent turn reading self.old.row)) (row_after (acknowledging_makes sending.code sending.role consent) self.old.row) self.old.row }
+        ensures { Judged (acknowledge_needs sending.code sending.role consent turn reading self.old.row) (acknowledging_makes sending.code sending.role consent) self.old.row self.new.row result }
     {
         let straight = turn == Turn::Straight;
         if consent == Consent::Withheld {
@@ -50,8 +48,7 @@ impl Line {
     // Consent to a code that has not taken effect yet: everything is looked at again.
     fn consent(&mut self, sending: Sending, turn: Turn, reading: Reading) -> Result<(), Refusal>
         requires { effective_when_sent sending.code sending.role ≡ false }
-        ensures answer { result ≡ checked (code_needs sending.code sending.role (turn_is turn (acknowledged_with sending.code self.old.row.permission)) reading self.old.row) }
-        ensures row { self.new.row ≡ unless_refused (checked (code_needs sending.code sending.role (turn_is turn (acknowledged_with sending.code self.old.row.permission)) reading self.old.row)) (row_after (consent_makes sending.code sending.role) self.old.row) self.old.row }
+        ensures { Judged (code_needs sending.code sending.role (turn_is turn (acknowledged_with sending.code self.old.row.permission)) reading self.old.row) (consent_makes sending.code sending.role) self.old.row self.new.row result }
     {
         let wanted = sending.acknowledged_with(self.row.permission);
         sending.check(turn == wanted, reading, self.row)?;

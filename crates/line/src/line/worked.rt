@@ -1,7 +1,7 @@
 // What controls, trains, trolleys and calls do to a line.
 ghost use Rattle.std.specs.Prelude.{◌≡◌, ℕ};
 ghost use Rattle.answer.specs.Answers.{checked, given_that, unless_refused};
-ghost use Rattle.line.specs.Changes.{action_of, call_kept, home_moved, reset_called, resume_called, row_after, settled, suspended, trolley_ended, trolley_started};
+ghost use Rattle.line.specs.Changes.{Judged, action_of, call_kept, home_moved, reset_called, resume_called, row_after, settled, suspended, trolley_ended, trolley_started};
 ghost use Rattle.line.specs.Lines.{entering_answer, entering_makes, home_control_needs, leaving_answer, leaving_makes, reset_needs, resume_needs, stop_control_makes, stop_control_needs, trolley_end_needs, trolley_start_needs};
 
 use super::Line;
@@ -23,8 +23,7 @@ fn call_kept(station: Station, kept: Option<Station>) -> Option<Station>
 impl Line {
     // Moves the stop control, and the stop signal with it.
     pub fn move_stop_control(&mut self, position: Position, reading: Reading) -> Result<(), Refusal>
-        ensures answer { result ≡ checked (stop_control_needs position reading self.old.row) }
-        ensures row { self.new.row ≡ unless_refused (checked (stop_control_needs position reading self.old.row)) (row_after (stop_control_makes position) self.old.row) self.old.row }
+        ensures { Judged (stop_control_needs position reading self.old.row) (stop_control_makes position) self.old.row self.new.row result }
     {
         let Row {
             permission,
@@ -50,8 +49,7 @@ impl Line {
 
     // Moves the home control, and the home signal with it.
     pub fn move_home_control(&mut self, position: Position) -> Result<(), Refusal>
-        ensures answer { result ≡ checked (home_control_needs position self.old.row) }
-        ensures row { self.new.row ≡ unless_refused (checked (home_control_needs position self.old.row)) (row_after (home_moved position) self.old.row) self.old.row }
+        ensures { Judged (home_control_needs position self.old.row) (home_moved position) self.old.row self.new.row result }
     {
         let Row {
             permission,
@@ -116,8 +114,7 @@ impl Line {
     }
 
     pub fn start_trolley(&mut self) -> Result<(), Refusal>
-        ensures answer { result ≡ checked (trolley_start_needs self.old.row) }
-        ensures row { self.new.row ≡ unless_refused (checked (trolley_start_needs self.old.row)) (row_after trolley_started self.old.row) self.old.row }
+        ensures { Judged (trolley_start_needs self.old.row) trolley_started self.old.row self.new.row result }
     {
         need(!self.row.signals.suspended, Refusal::LineSuspended)?;
         need(
@@ -129,8 +126,7 @@ impl Line {
     }
 
     pub fn end_trolley(&mut self, place: Place) -> Result<(), Refusal>
-        ensures answer { result ≡ checked (trolley_end_needs self.old.row) }
-        ensures row { self.new.row ≡ unless_refused (checked (trolley_end_needs self.old.row)) (row_after (trolley_ended place) self.old.row) self.old.row }
+        ensures { Judged (trolley_end_needs self.old.row) (trolley_ended place) self.old.row self.new.row result }
     {
         need(
             self.row.permission.running_trolley(),
@@ -158,8 +154,7 @@ impl Line {
 
     // A station calls for working to be resumed. The other station's call completes it: the line is closed, with nothing permitted.
     pub fn call_resume(&mut self, station: Station, reading: Reading) -> Result<(), Refusal>
-        ensures answer { result ≡ checked (resume_needs station reading self.old.row) }
-        ensures row { self.new.row ≡ unless_refused (checked (resume_needs station reading self.old.row)) (row_after (resume_called station) self.old.row) self.old.row }
+        ensures { Judged (resume_needs station reading self.old.row) (resume_called station) self.old.row self.new.row result }
     {
         let kept = self.row.calls.resume;
         let signals = self.row.signals;

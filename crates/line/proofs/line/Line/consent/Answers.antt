@@ -20,9 +20,9 @@ invariant_of-self c =
     let k = consent_keeps _ _ _ _ l.row c.requires (allowed (goal.at.invariant_of-self c).In_ok-check) (record { closed = l.closed; clear = l.clear; off = l.off }) in
     rw c.consented-self.ensures (record { closed = k.closed; clear = k.clear; off = k.off })
 
-pub returns-clause-row : goal.returns-clause-row
-returns-clause-row c =
+pub returns : goal.returns
+returns c =
     let r = c.args.self.now.row in
-    let ok = allowed (goal.at.returns-clause-row c).In_ok-check in
+    let ok = allowed (goal.at.returns c).In_ok-check in
     let made = ap (λ p. with_permission p r) c.consented-self.ensures ∙ consent_is c.args.sending.code c.args.sending.role r c.requires in
-    made ∙ ap (λ v. unless_refused v (row_after (consent_makes c.args.sending.code c.args.sending.role) r) r) (sym ok)
+    record { answer = sym ok; row = made ∙ ap (λ v. unless_refused v (row_after (consent_makes c.args.sending.code c.args.sending.role) r) r) (sym ok) }
