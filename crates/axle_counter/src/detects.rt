@@ -66,12 +66,6 @@ impl Detector for AxleCounter {
     }
 
     fn read(&self) -> Reading {
-        if self.failed {
-            Reading::Failed
-        } else if self.axles() == 0 {
-            Reading::Clear
-        } else {
-            Reading::Occupied
-        }
+        Reading::of(self.axles(), self.failed)
     }
 }

@@ -3,22 +3,37 @@
 #![tactic(auto)]
 
 ghost use Rattle.std.specs.Prelude.{◌≡◌, ◌≤◌};
-ghost use Rattle.detector.specs.Meaning.{Meaning, limit, fresh, reading_of};
+ghost use Rattle.detector.specs.Meaning.{Meaning, counting, limit, fresh, reading_of};
 ghost use Rattle.detector.specs.Meaning.{counted_in, counted_out, failing, restored, rolled};
 
 // The most axles that a detector counts.
 pub const LIMIT: u16 = 1000;
 
 // What a detector shows.
-#[derive(Clone, Copy)]
+#[derive(Clone, Copy, Debug, PartialEq, Eq)]
 pub enum Reading {
     Clear,
     Occupied,
     Failed,
 }
 
+impl Reading {
+    // What a detector shows that counts so many axles, failed or not.
+    pub fn of(axles: u16, failed: bool) -> Reading
+        ensures { result ≡ reading_of (counting axles failed) }
+    {
+        if failed {
+            Reading::Failed
+        } else if axles == 0 {
+            Reading::Clear
+        } else {
+            Reading::Occupied
+        }
+    }
+}
+
 // What a detector is told, as a value.
-#[derive(Clone, Copy)]
+#[derive(Clone, Copy, Debug, PartialEq, Eq)]
 pub enum Action {
     CountIn(u16),
     CountOut(u16),

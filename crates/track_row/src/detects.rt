@@ -67,12 +67,6 @@ impl Detector for TrackRow {
     }
 
     fn read(&self) -> Reading {
-        if self.failed {
-            Reading::Failed
-        } else if axles_on(&self.tracks) == 0 {
-            Reading::Clear
-        } else {
-            Reading::Occupied
-        }
+        Reading::of(axles_on(&self.tracks), self.failed)
     }
 }
