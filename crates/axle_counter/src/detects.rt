@@ -11,7 +11,7 @@ use detector::{Detector, LIMIT, Reading};
 impl Detector for AxleCounter {
     ghost meaning = { counter_meaning };
 
-    ghost limited = { first_of (Prim.search rules, Prim.grind (arith, Self.row.coded.inj)) };
+    ghost limited = { Prim.search rules };
 
     fn fresh() -> AxleCounter
         ensures meaning { counter_meaning result ≡ fresh }

@@ -11,7 +11,7 @@ use detector::{Detector, LIMIT, Reading};
 impl Detector for TrackRow {
     ghost meaning = { row_meaning };
 
-    ghost limited = { first_of (Prim.search rules, Prim.grind (arith, Self.row.coded.inj)) };
+    ghost limited = { Prim.search rules };
 
     fn fresh() -> TrackRow
         ensures meaning { row_meaning result ≡ fresh }

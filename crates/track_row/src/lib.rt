@@ -46,25 +46,18 @@ fn clear_off(tracks: &mut [u16; TRACKS], at: usize) -> u16
     here
 }
 
-// Which track gives in a turn: the highest one in turn 0, and then each one below.
-fn giving_in(turn: usize) -> usize
-    requires { turn < track_count }
-    ensures { result + turn + 1 ≡ track_count }
-{
-    TRACKS - 1 - turn
-}
-
-// Takes axles off the tracks in turn, and says how many were not there to take.
+// Takes axles off the tracks, the highest one first, and says how many were not there to take.
+#[tactic(auto, using(crate::proofs::Taking::sum_taken))]
 fn take_off(tracks: &mut [u16; TRACKS], axles: u16) -> u16
     ensures tracks { tracks.new ≡ taken axles tracks.old }
     ensures sum { sum tracks.new ≡ sum tracks.old - axles }
     ensures missing { result ≡ axles - sum tracks.old }
 {
     let mut rest = axles;
-    for turn in 0..TRACKS {
-        let t = giving_in(turn);
-        let off = rest.min(tracks[t]);
-        tracks[t] -= off;
+    // By number, since a proof is not told what was written through `iter_mut().rev()`.
+    for track in (0..TRACKS).rev() {
+        let off = rest.min(tracks[track]);
+        tracks[track] -= off;
         rest -= off;
     }
     rest

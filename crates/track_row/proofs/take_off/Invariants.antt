@@ -1,7 +1,12 @@
-use Rattle.std.proofs.Common.{◌-◌}
-use Rattle.track_row.specs.Tracks.{track_count}
-use Rattle.track_row.proofs.Taking.{Taking}
+use Rattle.std.proofs.Common.{◌≡◌, ◌-◌, take, drop, sum}
+use Rattle.track_row.specs.Tracks.{taken}
 use Rattle.track_row.proofs.take_off.Given as goal
 
-abbrev pub invariant-loop-turn : goal.invariant-loop-turn
-invariant-loop-turn l = Taking (track_count - l.turn) l.axles l.rest l.initial.tracks l.tracks
+-- the tracks below are as before, the others have given, and so many axles are still to be taken
+abbrev pub invariant-loop-track : goal.invariant-loop-track
+invariant-loop-track l =
+    record {
+      below : take l.track l.tracks ≡ take l.track l.initial.tracks;
+      above : drop l.track l.tracks ≡ taken l.axles (drop l.track l.initial.tracks);
+      to_take : l.rest ≡ l.axles - sum (drop l.track l.initial.tracks);
+    }
