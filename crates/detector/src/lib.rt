@@ -32,7 +32,7 @@ impl Reading {
     }
 }
 
-// What a detector is told, as a value.
+// What a detector is told, as a value: a line's answer carries it to the detector's bank.
 #[derive(Clone, Copy, Debug, PartialEq, Eq)]
 pub enum Action {
     CountIn(u16),
