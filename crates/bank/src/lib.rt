@@ -4,7 +4,6 @@
 
 ghost use Rattle.std.specs.Prelude.{◌≡◌, ℕ, ◌*◌, List, length, replicate};
 ghost use Rattle.bank.specs.Banks.{single, paired};
-ghost use Rattle.bank.specs.Halves.{first_acted, second_acted, read_either};
 ghost use Rattle.bank.specs.Places.{acted_at, read_at};
 ghost use Rattle.detector.specs.Meaning.{Meaning, fresh};
 ghost use Rattle.std.proofs.Common.{rules};
@@ -99,7 +98,6 @@ impl<B: Bank> Bank for Pair<B> {
         }
     }
 
-    #[tactic(auto, using(crate::specs::HalvesLemmas::read_at_interleaved))]
     fn read(&self, at: usize) -> Option<Reading> {
         if at % 2 == 0 {
             self.first.read(at / 2)
