@@ -1,5 +1,5 @@
 -- Two totals that go round, and the count that they tell. This page assumes nothing.
-use Rattle.std.specs.Prelude.{Bool, true, false, cond, ℕ, ◌+◌, ◌-◌, ◌%◌, min, leb}
+use Rattle.std.specs.Prelude.{Bool, true, false, if◌then◌else◌, ℕ, ◌+◌, ◌-◌, ◌%◌, min, nat_le}
 use Rattle.detector.specs.Meaning.{Meaning, limit, counting}
 
 -- a total goes round to 0 here
@@ -31,7 +31,7 @@ totals_in k t =
     record {
       in_total = (t.in_total + min k room) % round;
       out_total = t.out_total;
-      failed = cond (leb k room) t.failed true;
+      failed = if nat_le k room then t.failed else true;
     }
 
 -- the out-total gains what there is to come out
@@ -40,7 +40,7 @@ totals_out k t =
     record {
       in_total = t.in_total;
       out_total = (t.out_total + min k (axles_of t)) % round;
-      failed = cond (leb k (axles_of t)) t.failed true;
+      failed = if nat_le k (axles_of t) then t.failed else true;
     }
 
 abbrev pub totals_failing : Totals → Totals

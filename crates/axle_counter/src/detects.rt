@@ -11,7 +11,7 @@ use detector::{Detector, LIMIT, Reading};
 impl Detector for AxleCounter {
     ghost meaning = { counter_meaning };
 
-    ghost limited = { first_of (Prim.search rules, Prim.grind (arith, Self.row.coded.inj)) };
+    ghost limited = { Prim.search rules };
 
     fn fresh() -> AxleCounter
         ensures meaning { counter_meaning result ≡ fresh }
@@ -66,12 +66,6 @@ impl Detector for AxleCounter {
     }
 
     fn read(&self) -> Reading {
-        if self.failed {
-            Reading::Failed
-        } else if self.axles() == 0 {
-            Reading::Clear
-        } else {
-            Reading::Occupied
-        }
+        Reading::of(self.axles(), self.failed)
     }
 }

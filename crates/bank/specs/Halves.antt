@@ -1,6 +1,6 @@
 -- Two halves of one bank that alternate, and what acting on one detector and reading one come to in
 -- them. This page assumes nothing.
-use Rattle.std.specs.Prelude.{ℕ, ◌/◌, ◌%◌, Bool, cond, List, [], ◌∷◌, Option, ◌==◌}
+use Rattle.std.specs.Prelude.{ℕ, ◌/◌, ◌%◌, Bool, if◌then◌else◌, List, [], ◌∷◌, Option, ◌==◌}
 use Rattle.bank.specs.Places.{acted_at, read_at}
 use Rattle.detector.specs.Meaning.{Meaning}
 use Rattle.detector.specs.declared.Action.{Action}
@@ -18,11 +18,11 @@ in_first at = at % 2 == 0
 
 -- what acting at a number of the bank makes of its first half, and of its second
 abbrev pub first_acted : ℕ → Action → List Meaning → List Meaning
-first_acted at action ms = cond (in_first at) (acted_at (at / 2) action ms) ms
+first_acted at action ms = if in_first at then acted_at (at / 2) action ms else ms
 
 abbrev pub second_acted : ℕ → Action → List Meaning → List Meaning
-second_acted at action ms = cond (in_first at) ms (acted_at (at / 2) action ms)
+second_acted at action ms = if in_first at then ms else acted_at (at / 2) action ms
 
 -- what reading at a number of the bank gives from one half or the other
 abbrev pub read_either : ℕ → List Meaning → List Meaning → Option Reading
-read_either at firsts seconds = cond (in_first at) (read_at (at / 2) firsts) (read_at (at / 2) seconds)
+read_either at firsts seconds = if in_first at then read_at (at / 2) firsts else read_at (at / 2) seconds

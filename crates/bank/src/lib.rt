@@ -4,7 +4,6 @@
 
 ghost use Rattle.std.specs.Prelude.{◌≡◌, ℕ, ◌*◌, List, length, replicate};
 ghost use Rattle.bank.specs.Banks.{single, paired};
-ghost use Rattle.bank.specs.Halves.{first_acted, second_acted, read_either};
 ghost use Rattle.bank.specs.Places.{acted_at, read_at};
 ghost use Rattle.detector.specs.Meaning.{Meaning, fresh};
 ghost use Rattle.std.proofs.Common.{rules};
@@ -63,53 +62,16 @@ impl<D: Detector> Bank for Single<D> {
     }
 
     fn read(&self, at: usize) -> Option<Reading> {
-        if at == 0 {
-            Some(self.detector.read())
-        } else {
-            None
-        }
+        (at == 0).then(|| self.detector.read())
     }
 }
 
-// Two banks of one size: the even numbers are the first one's, the odd ones the second's.
+// Two banks of one size: the even numbers are the first one's, the odd ones the second's, and half
+// of a number says which detector of its bank it is.
 #[derive(Drop)]
 pub struct Pair<B> {
     first: B,
     second: B,
-}
-
-// What each call does to the halves. `PairBank` tells the same of the list in which they alternate.
-impl<B: Bank> Pair<B> {
-    fn of_fresh_halves() -> Pair<B>
-        ensures first { B.Bank.meanings result.first ≡ replicate B.Bank.size fresh }
-        ensures second { B.Bank.meanings result.second ≡ replicate B.Bank.size fresh }
-    {
-        Pair {
-            first: B::fresh(),
-            second: B::fresh(),
-        }
-    }
-
-    fn act_in_half(&mut self, at: usize, action: Action)
-        ensures first { B.Bank.meanings self.new.first ≡ first_acted at action (B.Bank.meanings self.old.first) }
-        ensures second { B.Bank.meanings self.new.second ≡ second_acted at action (B.Bank.meanings self.old.second) }
-    {
-        if at % 2 == 0 {
-            self.first.act(at / 2, action);
-        } else {
-            self.second.act(at / 2, action);
-        }
-    }
-
-    fn read_in_half(&self, at: usize) -> Option<Reading>
-        ensures { result ≡ read_either at (B.Bank.meanings self.now.first) (B.Bank.meanings self.now.second) }
-    {
-        if at % 2 == 0 {
-            self.first.read(at / 2)
-        } else {
-            self.second.read(at / 2)
-        }
-    }
 }
 
 impl<B: Bank> Bank for Pair<B> {
@@ -119,16 +81,29 @@ impl<B: Bank> Bank for Pair<B> {
 
     ghost sized = { length_paired B.Bank.meanings B.Bank.size B.Bank.sized };
 
+    #[tactic(auto, using(crate::specs::HalvesLemmas::interleaved_replicate))]
     fn fresh() -> Pair<B> {
-        Pair::of_fresh_halves()
+        Pair {
+            first: B::fresh(),
+            second: B::fresh(),
+        }
     }
 
+    #[tactic(auto, using(crate::specs::HalvesLemmas::acted_at_interleaved))]
     fn act(&mut self, at: usize, action: Action) {
-        self.act_in_half(at, action);
+        if at % 2 == 0 {
+            self.first.act(at / 2, action);
+        } else {
+            self.second.act(at / 2, action);
+        }
     }
 
     fn read(&self, at: usize) -> Option<Reading> {
-        self.read_in_half(at)
+        if at % 2 == 0 {
+            self.first.read(at / 2)
+        } else {
+            self.second.read(at / 2)
+        }
     }
 }
 

@@ -1,5 +1,5 @@
 -- What a detector means, what each call makes of that, and what it reads. This page assumes nothing.
-use Rattle.std.specs.Prelude.{Bool, true, false, cond, ℕ, ◌+◌, ◌-◌, leb, eqb}
+use Rattle.std.specs.Prelude.{Bool, true, false, if◌then◌else◌, ℕ, ◌+◌, ◌-◌, nat_le, ◌==◌}
 use Rattle.detector.specs.declared.Action.{Action}
 use Rattle.detector.specs.declared.Action.TheVariants.{CountIn, CountOut, Fail, Reset, Roll}
 use Rattle.detector.specs.declared.Reading.{Reading}
@@ -28,14 +28,14 @@ fresh = counting 0 false
 -- k axles more; a count past the limit stays at the limit and has failed
 abbrev pub counted_in : ℕ → Meaning → Meaning
 counted_in k m =
-    let within = leb (m.axles + k) limit in
-    recounted (cond within (m.axles + k) limit) (cond within m.failed true) m
+    let within = nat_le (m.axles + k) limit in
+    recounted (if within then m.axles + k else limit) (if within then m.failed else true) m
 
 -- k axles fewer; a count below none stays at none and has failed
 abbrev pub counted_out : ℕ → Meaning → Meaning
 counted_out k m =
-    let there = leb k m.axles in
-    recounted (cond there (m.axles - k) 0) (cond there m.failed true) m
+    let there = nat_le k m.axles in
+    recounted (if there then m.axles - k else 0) (if there then m.failed else true) m
 
 -- it has failed, and goes on counting
 abbrev pub failing : Meaning → Meaning
@@ -58,7 +58,7 @@ acted Reset m = restored m
 acted (Roll track) m = rolled track m
 
 abbrev pub reading_of : Meaning → Reading
-reading_of m = cond m.failed Failed (cond (eqb m.axles 0) Clear Occupied)
+reading_of m = if m.failed then Failed else if m.axles == 0 then Clear else Occupied
 
 -- the readings in the order of their declaration
 abbrev pub reading_number : Reading → ℕ
@@ -67,8 +67,8 @@ reading_number Occupied = 1
 reading_number Failed = 2
 
 abbrev pub reading_is : Reading → Reading → Bool
-reading_is x y = eqb (reading_number y) (reading_number x)
+reading_is x y = reading_number y == reading_number x
 
 -- clear is the only reading that passes
 abbrev pub reads_clear : Meaning → Bool
-reads_clear m = eqb (reading_number (reading_of m)) (reading_number Clear)
+reads_clear m = reading_number (reading_of m) == reading_number Clear

@@ -3,7 +3,7 @@
 #![tactic(auto)]
 
 ghost use Rattle.std.specs.Prelude.{◌≡◌, ◌≤◌};
-ghost use Rattle.detector.specs.Meaning.{Meaning, limit, fresh, reading_of};
+ghost use Rattle.detector.specs.Meaning.{Meaning, counting, limit, fresh, reading_of};
 ghost use Rattle.detector.specs.Meaning.{counted_in, counted_out, failing, restored, rolled};
 
 // The most axles that a detector counts.
@@ -17,7 +17,22 @@ pub enum Reading {
     Failed,
 }
 
-// What a detector is told, as a value.
+impl Reading {
+    // What a detector shows that counts so many axles, failed or not.
+    pub fn of(axles: u16, failed: bool) -> Reading
+        ensures { result ≡ reading_of (counting axles failed) }
+    {
+        if failed {
+            Reading::Failed
+        } else if axles == 0 {
+            Reading::Clear
+        } else {
+            Reading::Occupied
+        }
+    }
+}
+
+// What a detector is told, as a value: a line's answer carries it to the detector's bank.
 #[derive(Clone, Copy, Debug, PartialEq, Eq)]
 pub enum Action {
     CountIn(u16),

@@ -1,5 +1,5 @@
 -- What is done to the axles on a row of tracks, listed from track 0 up. This page assumes nothing.
-use Rattle.std.specs.Prelude.{ℕ, ◌+◌, ◌-◌, min, cond, List, [], ◌∷◌, replicate, sum, nat_lt, slice_index, slice_set}
+use Rattle.std.specs.Prelude.{ℕ, ◌+◌, ◌-◌, min, if◌then◌else◌, List, [], ◌∷◌, replicate, sum, nat_lt, slice_index, slice_set}
 use Rattle.detector.specs.Meaning.{limit}
 
 abbrev pub track_count : ℕ
@@ -23,4 +23,4 @@ taken k (x ∷ xs) = (x - (k - sum xs)) ∷ taken k xs
 
 -- all of track t moves to the next one; from the last track, or past it, nothing moves
 abbrev pub tracks_rolled : ℕ → List ℕ → List ℕ
-tracks_rolled t xs = cond (nat_lt (t + 1) track_count) (with_more (slice_index xs t) (t + 1) (slice_set xs t 0)) xs
+tracks_rolled t xs = if nat_lt (t + 1) track_count then with_more (slice_index xs t) (t + 1) (slice_set xs t 0) else xs

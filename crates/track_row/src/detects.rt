@@ -5,13 +5,13 @@ ghost use Rattle.track_row.specs.TrackRows.{row_meaning};
 ghost use Rattle.track_row.specs.Tracks.{no_axles, tracks_in, taken, tracks_rolled};
 ghost use Rattle.std.proofs.Common.{rules, arith};
 
-use super::{TRACKS, TrackRow, axles_on, clear_off, put_on, take_off};
+use super::{TRACKS, TrackRow};
 use detector::{Detector, LIMIT, Reading};
 
 impl Detector for TrackRow {
     ghost meaning = { row_meaning };
 
-    ghost limited = { first_of (Prim.search rules, Prim.grind (arith, Self.row.coded.inj)) };
+    ghost limited = { Prim.search rules };
 
     fn fresh() -> TrackRow
         ensures meaning { row_meaning result ≡ fresh }
@@ -27,8 +27,8 @@ impl Detector for TrackRow {
         ensures meaning { row_meaning self.new ≡ counted_in axles (row_meaning self.old) }
         ensures tracks { self.new.tracks ≡ tracks_in axles self.old.tracks }
     {
-        let room = LIMIT - axles_on(&self.tracks);
-        put_on(&mut self.tracks, 0, axles.min(room));
+        let room = LIMIT - self.axles();
+        self.put_on(0, axles.min(room));
         self.failed |= axles > room;
     }
 
@@ -36,7 +36,7 @@ impl Detector for TrackRow {
         ensures meaning { row_meaning self.new ≡ counted_out axles (row_meaning self.old) }
         ensures tracks { self.new.tracks ≡ taken axles self.old.tracks }
     {
-        let missing = take_off(&mut self.tracks, axles);
+        let missing = self.take_off(axles);
         self.failed |= missing > 0;
     }
 
@@ -61,18 +61,12 @@ impl Detector for TrackRow {
     {
         let from = track as usize;
         if from + 1 < TRACKS {
-            let moved = clear_off(&mut self.tracks, from);
-            put_on(&mut self.tracks, from + 1, moved);
+            let moved = self.clear_off(from);
+            self.put_on(from + 1, moved);
         }
     }
 
     fn read(&self) -> Reading {
-        if self.failed {
-            Reading::Failed
-        } else if axles_on(&self.tracks) == 0 {
-            Reading::Clear
-        } else {
-            Reading::Occupied
-        }
+        Reading::of(self.axles(), self.failed)
     }
 }

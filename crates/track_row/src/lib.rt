@@ -8,6 +8,8 @@ ghost use Rattle.track_row.specs.Tracks.{track_count, with_more, taken};
 
 pub mod detects;
 
+use std::mem;
+
 const TRACKS: usize = 8;
 
 #[derive(Drop)]
@@ -17,55 +19,50 @@ pub struct TrackRow {
     ghost few: { sum tracks ≤ limit },
 }
 
-fn axles_on(tracks: &[u16; TRACKS]) -> u16
-    requires { sum tracks.now ≤ limit }
-    ensures { result ≡ sum tracks.now }
-{
-    tracks.iter().sum()
-}
-
-// Puts axles on one track.
-fn put_on(tracks: &mut [u16; TRACKS], at: usize, axles: u16)
-    requires within { at < track_count }
-    requires room { sum tracks.old + axles ≤ limit }
-    ensures tracks { tracks.new ≡ with_more axles at tracks.old }
-    ensures sum { sum tracks.new ≡ sum tracks.old + axles }
-{
-    tracks[at] += axles;
-}
-
-// Empties one track, and says how many axles were on it.
-fn clear_off(tracks: &mut [u16; TRACKS], at: usize) -> u16
-    requires { at < track_count }
-    ensures tracks { tracks.new ≡ slice_set tracks.old at 0 }
-    ensures axles { result ≡ slice_index tracks.old at }
-    ensures sum { sum tracks.new + result ≡ sum tracks.old }
-{
-    let here = tracks[at];
-    tracks[at] = 0;
-    here
-}
-
-// Which track gives in a turn: the highest one in turn 0, and then each one below.
-fn giving_in(turn: usize) -> usize
-    requires { turn < track_count }
-    ensures { result + turn + 1 ≡ track_count }
-{
-    TRACKS - 1 - turn
-}
-
-// Takes axles off the tracks in turn, and says how many were not there to take.
-fn take_off(tracks: &mut [u16; TRACKS], axles: u16) -> u16
-    ensures tracks { tracks.new ≡ taken axles tracks.old }
-    ensures sum { sum tracks.new ≡ sum tracks.old - axles }
-    ensures missing { result ≡ axles - sum tracks.old }
-{
-    let mut rest = axles;
-    for turn in 0..TRACKS {
-        let t = giving_in(turn);
-        let off = rest.min(tracks[t]);
-        tracks[t] -= off;
-        rest -= off;
+impl TrackRow {
+    fn axles(&self) -> u16
+        ensures { result ≡ sum self.now.tracks }
+    {
+        self.tracks.iter().sum()
     }
-    rest
+
+    // Puts axles on one track.
+    fn put_on(&mut self, at: usize, axles: u16)
+        requires within { at < track_count }
+        requires room { sum self.old.tracks + axles ≤ limit }
+        ensures tracks { self.new.tracks ≡ with_more axles at self.old.tracks }
+        ensures sum { sum self.new.tracks ≡ sum self.old.tracks + axles }
+        ensures failed { self.new.failed ≡ self.old.failed }
+    {
+        self.tracks[at] += axles;
+    }
+
+    // Empties one track, and says how many axles were on it.
+    fn clear_off(&mut self, at: usize) -> u16
+        requires { at < track_count }
+        ensures tracks { self.new.tracks ≡ slice_set self.old.tracks at 0 }
+        ensures axles { result ≡ slice_index self.old.tracks at }
+        ensures sum { sum self.new.tracks + result ≡ sum self.old.tracks }
+        ensures failed { self.new.failed ≡ self.old.failed }
+    {
+        mem::take(&mut self.tracks[at])
+    }
+
+    // Takes axles off the tracks, the highest one first, and says how many were not there to take.
+    #[tactic(auto, using(crate::proofs::Taking::sum_taken))]
+    fn take_off(&mut self, axles: u16) -> u16
+        ensures tracks { self.new.tracks ≡ taken axles self.old.tracks }
+        ensures sum { sum self.new.tracks ≡ sum self.old.tracks - axles }
+        ensures missing { result ≡ axles - sum self.old.tracks }
+        ensures failed { self.new.failed ≡ self.old.failed }
+    {
+        let mut rest = axles;
+        // By number, since a proof is not told what was written through `iter_mut().rev()`.
+        for track in (0..TRACKS).rev() {
+            let off = rest.min(self.tracks[track]);
+            self.tracks[track] -= off;
+            rest -= off;
+        }
+        rest
+    }
 }

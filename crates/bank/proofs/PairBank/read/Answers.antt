@@ -1,9 +1,10 @@
-use Rattle.std.proofs.Common.{sym, ◌∙◌}
+use Rattle.std.proofs.Common.{arith}
+use Rattle.std.proofs.lemmas.Bool.Decides.{nat_tests}
 use Rattle.bank.specs.HalvesLemmas.{read_at_interleaved}
 use Rattle.bank.proofs.PairBank.read.Goals as goal
 
-pub returns : goal.returns
-returns g c =
-    let was = c.args.self.now in
-    let sized = g.met.B.Bank.sized in
-    cc (read_at_interleaved c.args.at _ _ (sized was.first ∙ sym (sized was.second)))
+pub returns-then-at-eq0 : goal.returns-then-at-eq0
+returns-then-at-eq0 g c = grind (arith, nat_tests, read_at_interleaved, g.met.B.Bank.sized)
+
+pub returns-else-at-eq0 : goal.returns-else-at-eq0
+returns-else-at-eq0 g c = grind (arith, nat_tests, read_at_interleaved, g.met.B.Bank.sized)
