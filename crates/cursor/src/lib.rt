@@ -41,15 +41,7 @@ impl<'a> Cursor<'a> {
     pub fn number(&mut self) -> Result<u16, ReadFault>
         ensures { Moves number_at self.old self.new result }
     {
-        let sheet = self.sheet;
-        let start = self.at;
-        if start >= sheet.len() {
-            return Err(ReadFault {
-                reason: Reason::Ends,
-                offset: sheet.len(),
-            });
-        }
-        let (value, after) = number_in(start, &sheet[start..])?;
+        let (value, after) = number_in(self.sheet, self.at)?;
         self.at = after;
         Ok(value)
     }
