@@ -47,6 +47,7 @@ impl<'a> Cursor<'a> {
     }
 
     // The value that the next number stands for.
+    #[tactic(auto, unfolding(format::specs::Layouts::field_at))]
     fn value<T: Numbered>(&mut self) -> Result<T, ReadFault>
         ensures { Goes (field_at T.Numbered.field) self.old self.new result }
     {
@@ -59,12 +60,13 @@ impl<'a> Cursor<'a> {
     }
 
     // The next number, which has to lie within these bounds.
+    #[tactic(auto, unfolding(format::specs::Layouts::field_at))]
     fn from_to(&mut self, least: u16, most: u16) -> Result<u16, ReadFault>
         ensures { Goes (field_at (from_to least most)) self.old self.new result }
     {
         let start = self.at;
         let number = self.number()?;
-        if number < least || number > most {
+        if !(least..=most).contains(&number) {
             return Err(ReadFault {
                 reason: Reason::Value,
                 offset: start,
