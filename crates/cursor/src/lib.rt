@@ -17,7 +17,7 @@ use number::number_in;
 // The longest sheet, in bytes.
 pub const LONGEST: usize = 65536;
 
-#[derive(Drop)]
+#[derive(Clone, Copy)]
 pub struct Cursor<'a> {
     sheet: &'a [u8],
     at: usize,
@@ -83,10 +83,7 @@ impl<'a> Cursor<'a> {
         if offset >= self.sheet.len() {
             return Ok(None);
         }
-        let mut ahead = Cursor {
-            sheet: self.sheet,
-            at: offset,
-        };
+        let mut ahead = *self;
         let kind = ahead.value()?;
         let section = ahead.number()?;
         let event = ahead.fields(kind)?;
