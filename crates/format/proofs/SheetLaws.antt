@@ -16,7 +16,6 @@ use Rattle.format.specs.Numbers.{Answer, Bytes, fault, number_at}
 use Rattle.format.specs.Openings.{counted, opening}
 use Rattle.format.specs.Sheets.{Begins, GoesOn, Malformed, Nothing, Outcome, ReadUpTo, SectionCount, Sheet, Stands, StopsFor, Tells, Wanted}
 use Rattle.format.proofs.EventLaws.{bars_stuck, event_reads, event_stopped, number_stops, value_stops, wants_begun}
-use Rattle.format.proofs.LayoutLaws.{refused}
 use Rattle.format.proofs.NumberLaws.{NumberTold, cut_ends, malformed_stops, number_reads, number_told, number_wrote, written_long}
 use Rattle.format.proofs.Standing.{stands_front, stands_back, stands_inside, stands_join, stands_whole, stands_within}
 
@@ -304,7 +303,7 @@ module _ (s : List ℕ) where
   ended_event p q r e h t d =
       ⊎_elim
       (λ x. omega (arith, x.0, stands_inside t (event_long e)))
-      (λ x. refused (sym x.2 ∙ event_reads e s p q h t))
+      (λ x. cc (x.2, event_reads e s p q h t))
       d
 
   -- the same events are read up to where reading ends
