@@ -32,7 +32,7 @@ pub enum RunFault {
     Memory,
 }
 
-// A fault as it is printed.
+// A fault as it is printed, so that its number is one: an enum here would say once more what `RunFault` says.
 #[derive(Clone, Copy, Debug, PartialEq, Eq)]
 pub struct Stop {
     pub number: u16,
