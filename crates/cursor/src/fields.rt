@@ -1,7 +1,6 @@
 // The fields of each kind of event, read in the order of their layout.
 ghost use Rattle.cursor.specs.Cursors.{Goes};
 ghost use Rattle.events.specs.Fields.{axle_counts};
-ghost use Rattle.events.specs.declared.field.Kind.TheVariants as kind;
 ghost use Rattle.format.specs.Layouts.{field_at, fields_of, layout_at};
 
 use super::Cursor;
@@ -21,25 +20,58 @@ impl Cursor<'_> {
             Kind::Answer => Ok(Event::Answer {
                 station: self.value()?,
             }),
-            Kind::Send => self.send(),
-            Kind::Acknowledge => self.acknowledge(),
+            Kind::Send => Ok(Event::Send {
+                line: self.value()?,
+                station: self.value()?,
+                code: self.value()?,
+                turn: self.value()?,
+            }),
+            Kind::Acknowledge => Ok(Event::Acknowledge {
+                station: self.value()?,
+                consent: self.value()?,
+                turn: self.value()?,
+            }),
             Kind::Error => Ok(Event::Error {
                 station: self.value()?,
             }),
-            Kind::StopControl => self.stop_control(),
-            Kind::HomeControl => self.home_control(),
-            Kind::Enters => self.enters(),
-            Kind::Leave => self.leave(),
+            Kind::StopControl => Ok(Event::StopControl {
+                line: self.value()?,
+                position: self.value()?,
+            }),
+            Kind::HomeControl => Ok(Event::HomeControl {
+                line: self.value()?,
+                position: self.value()?,
+            }),
+            Kind::Enters => Ok(Event::Enters {
+                line: self.value()?,
+                axles: self.axles()?,
+            }),
+            Kind::Leave => Ok(Event::Leave {
+                line: self.value()?,
+                axles: self.axles()?,
+            }),
             Kind::TrolleyStarts => Ok(Event::TrolleyStarts {
                 line: self.value()?,
             }),
-            Kind::TrolleyEnds => self.trolley_ends(),
+            Kind::TrolleyEnds => Ok(Event::TrolleyEnds {
+                line: self.value()?,
+                place: self.value()?,
+            }),
             Kind::Fails => Ok(Event::Fails {
                 line: self.value()?,
             }),
-            Kind::Reset => self.reset(),
-            Kind::Resume => self.resume(),
-            Kind::Roll => self.roll(),
+            Kind::Reset => Ok(Event::Reset {
+                line: self.value()?,
+                station: self.value()?,
+            }),
+            Kind::Resume => Ok(Event::Resume {
+                line: self.value()?,
+                station: self.value()?,
+            }),
+            Kind::Roll => Ok(Event::Roll {
+                line: self.value()?,
+                track: self.from_to(0, 6)?,
+            }),
         }
     }
 
@@ -47,97 +79,5 @@ impl Cursor<'_> {
         ensures { Goes (field_at axle_counts) self.old self.new result }
     {
         self.from_to(1, 250)
-    }
-
-    fn send(&mut self) -> Result<Event, ReadFault>
-        ensures { Goes (layout_at (fields_of kind.Send)) self.old self.new result }
-    {
-        let line = self.value()?;
-        let station = self.value()?;
-        let code = self.value()?;
-        let turn = self.value()?;
-        Ok(Event::Send {
-            line,
-            station,
-            code,
-            turn,
-        })
-    }
-
-    fn acknowledge(&mut self) -> Result<Event, ReadFault>
-        ensures { Goes (layout_at (fields_of kind.Acknowledge)) self.old self.new result }
-    {
-        let station = self.value()?;
-        let consent = self.value()?;
-        let turn = self.value()?;
-        Ok(Event::Acknowledge {
-            station,
-            consent,
-            turn,
-        })
-    }
-
-    fn stop_control(&mut self) -> Result<Event, ReadFault>
-        ensures { Goes (layout_at (fields_of kind.StopControl)) self.old self.new result }
-    {
-        let line = self.value()?;
-        let position = self.value()?;
-        Ok(Event::StopControl { line, position })
-    }
-
-    fn home_control(&mut self) -> Result<Event, ReadFault>
-        ensures { Goes (layout_at (fields_of kind.HomeControl)) self.old self.new result }
-    {
-        let line = self.value()?;
-        let position = self.value()?;
-        Ok(Event::HomeControl { line, position })
-    }
-
-    fn enters(&mut self) -> Result<Event, ReadFault>
-        ensures { Goes (layout_at (fields_of kind.Enters)) self.old self.new result }
-    {
-        let line = self.value()?;
-        let axles = self.axles()?;
-        Ok(Event::Enters { line, axles })
-    }
-
-    fn leave(&mut self) -> Result<Event, ReadFault>
-        ensures { Goes (layout_at (fields_of kind.Leave)) self.old self.new result }
-    {
-        let line = self.value()?;
-        let axles = self.axles()?;
-        Ok(Event::Leave { line, axles })
-    }
-
-    fn trolley_ends(&mut self) -> Result<Event, ReadFault>
-        ensures { Goes (layout_at (fields_of kind.TrolleyEnds)) self.old self.new result }
-    {
-        let line = self.value()?;
-        let place = self.value()?;
-        Ok(Event::TrolleyEnds { line, place })
-    }
-
-    fn reset(&mut self) -> Result<Event, ReadFault>
-        ensures { Goes (layout_at (fields_of kind.Reset)) self.old self.new result }
-    {
-        let line = self.value()?;
-        let station = self.value()?;
-        Ok(Event::Reset { line, station })
-    }
-
-    fn resume(&mut self) -> Result<Event, ReadFault>
-        ensures { Goes (layout_at (fields_of kind.Resume)) self.old self.new result }
-    {
-        let line = self.value()?;
-        let station = self.value()?;
-        Ok(Event::Resume { line, station })
-    }
-
-    fn roll(&mut self) -> Result<Event, ReadFault>
-        ensures { Goes (layout_at (fields_of kind.Roll)) self.old self.new result }
-    {
-        let line = self.value()?;
-        let track = self.from_to(0, 6)?;
-        Ok(Event::Roll { line, track })
     }
 }

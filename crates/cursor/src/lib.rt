@@ -17,7 +17,7 @@ use number::number_in;
 // The longest sheet, in bytes.
 pub const LONGEST: usize = 65536;
 
-#[derive(Drop)]
+#[derive(Clone, Copy)]
 pub struct Cursor<'a> {
     sheet: &'a [u8],
     at: usize,
@@ -41,20 +41,13 @@ impl<'a> Cursor<'a> {
     pub fn number(&mut self) -> Result<u16, ReadFault>
         ensures { Moves number_at self.old self.new result }
     {
-        let sheet = self.sheet;
-        let start = self.at;
-        if start >= sheet.len() {
-            return Err(ReadFault {
-                reason: Reason::Ends,
-                offset: sheet.len(),
-            });
-        }
-        let (value, after) = number_in(start, &sheet[start..])?;
+        let (value, after) = number_in(self.sheet, self.at)?;
         self.at = after;
         Ok(value)
     }
 
     // The value that the next number stands for.
+    #[tactic(auto, unfolding(format::specs::Layouts::field_at))]
     fn value<T: Numbered>(&mut self) -> Result<T, ReadFault>
         ensures { Goes (field_at T.Numbered.field) self.old self.new result }
     {
@@ -67,12 +60,13 @@ impl<'a> Cursor<'a> {
     }
 
     // The next number, which has to lie within these bounds.
+    #[tactic(auto, unfolding(format::specs::Layouts::field_at))]
     fn from_to(&mut self, least: u16, most: u16) -> Result<u16, ReadFault>
         ensures { Goes (field_at (from_to least most)) self.old self.new result }
     {
         let start = self.at;
         let number = self.number()?;
-        if number < least || number > most {
+        if !(least..=most).contains(&number) {
             return Err(ReadFault {
                 reason: Reason::Value,
                 offset: start,
@@ -89,10 +83,7 @@ impl<'a> Cursor<'a> {
         if offset >= self.sheet.len() {
             return Ok(None);
         }
-        let mut ahead = Cursor {
-            sheet: self.sheet,
-            at: offset,
-        };
+        let mut ahead = *self;
         let kind = ahead.value()?;
         let section = ahead.number()?;
         let event = ahead.fields(kind)?;

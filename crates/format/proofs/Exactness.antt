@@ -1,5 +1,5 @@
 -- Each answer is given exactly when it is due, and a sheet has one reading. Assumes nothing.
-use Rattle.std.proofs.Common.{◌≡◌, ℕ, List, Some, Ok, Err, Option, sym, refl, ◌∙◌, subst, inl, inr, ⊎_elim, arith}
+use Rattle.std.proofs.Common.{◌≡◌, ℕ, List, Some, Ok, Err, Option, sym, refl, ◌∙◌, subst, inl, inr, ⊎_elim}
 use Rattle.events.specs.declared.event.LocatedEvent.{LocatedEvent}
 use Rattle.events.specs.declared.event.SectionEvent.{SectionEvent}
 use Rattle.format.specs.declared.fault.RunFault.TheVariants.{Read, Sections, Memory}
@@ -28,9 +28,9 @@ module _ (s : List ℕ) where
 
   tells_exactly : (r : Outcome) (c : Option ℕ) (es : List SectionEvent) → Tells s r c es → AnswersExactly s r
   tells_exactly r c es t = record {
-    accepted = exactly r (Ok tt) c es t (λ e. let z : ◌≡◌ {A = ℕ} 0 1 = cc in omega arith) _ (λ d ds x. (x.0, ds, x.2)) (λ p. (Some p.0, p.1, (p.0, refl, p.2)));
-    stopped = λ reason o. exactly r (Err (Read (fault reason o))) c es t (λ e. let z : ◌≡◌ {A = ℕ} 0 1 = cc in omega arith) _ (λ d ds x. (d, ds, x)) (λ p. p);
-    miscounted = exactly r (Err Sections) c es t (λ e. let z : ◌≡◌ {A = ℕ} 0 1 = cc in omega arith) _ (λ d ds x. (d, ds, x)) (λ p. p);
+    accepted = exactly r (Ok tt) c es t (λ e. cc) _ (λ d ds x. (x.0, ds, x.2)) (λ p. (Some p.0, p.1, (p.0, refl, p.2)));
+    stopped = λ reason o. exactly r (Err (Read (fault reason o))) c es t (λ e. cc) _ (λ d ds x. (d, ds, x)) (λ p. p);
+    miscounted = exactly r (Err Sections) c es t (λ e. cc) _ (λ d ds x. (d, ds, x)) (λ p. p);
   }
 
   pub answers_exactly : (r : Outcome) (c : Option ℕ) (vs : List LocatedEvent) → Told s r c vs → AnswersExactly s r
@@ -41,9 +41,9 @@ module _ (s : List ℕ) where
     one_form = λ t n es a b. a.bytes ∙ sym b.bytes;
     one_meaning = λ n m es ds a b.
         ⊎_elim
-        (λ e. let z : ◌≡◌ {A = ℕ} 0 1 = cc in absurd (omega arith))
+        (λ e. absurd (cc))
         (⊎_elim
-        (λ e. let z : ◌≡◌ {A = ℕ} 0 1 = cc in absurd (omega arith))
+        (λ e. absurd (cc))
         (λ same. let e = same.1 in (cc, same.2)))
         (one_telling s (Ok tt) (Ok tt) (Some n) (Some m) es ds (n, refl, a) (m, refl, b));
   }

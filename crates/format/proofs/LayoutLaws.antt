@@ -1,5 +1,5 @@
 -- What is answered at a layout is what stands there, proved once for every layout. Assumes nothing.
-use Rattle.std.proofs.Common.{◌≡◌, ℕ, ◌≤◌, ◌⊎◌, List, [], ◌∷◌, ◌++◌, length, Some, None, Ok, Err, Option, Result, sym, refl, ap, ◌∙◌, subst, inl, inr, ⊎_elim, append_assoc, append-nil, add-zero, arith}
+use Rattle.std.proofs.Common.{◌≡◌, ℕ, ◌≤◌, ◌⊎◌, List, [], ◌∷◌, ◌++◌, length, Some, None, Ok, Err, Option, sym, refl, ap, ◌∙◌, subst, inl, inr, ⊎_elim, append_assoc, append-nil, add-zero}
 use Rattle.std.specs.List.{flat_map}
 use Rattle.events.specs.Fields.{Field}
 use Rattle.events.specs.Written.{written_number}
@@ -38,10 +38,10 @@ Bars (field f k) [] m = f.value m ≡ None
 Bars (field {A} f k) (n ∷ ns) m = (a : A) × Means f n a × Bars (k a) ns m
 
 same_value : {A : Type 0} {f : Field A} {n : ℕ} {a b : A} → Means f n a → Means f n b → a ≡ b
-same_value {A} {f} {n} {a} {b} m k = let e : ◌≡◌ {A = Option A} (Some a) (Some b) = sym m.value ∙ k.value in cc
+same_value m k = cc (m.value, k.value)
 
 no_value : {A : Type 0} {f : Field A} {n : ℕ} {a : A} → Means f n a → f.value n ≡ None → ⊥
-no_value {A} {f} {n} {a} m e = let g : ◌≡◌ {A = Option A} (Some a) None = sym m.value ∙ e in let z : ◌≡◌ {A = ℕ} 0 1 = cc in omega arith
+no_value m e = cc (m.value, e)
 
 pub makes_wants : {T : Type 0} (l : Layout T) (ns : List ℕ) (n : ℕ) (more : List ℕ) (x : T) → Makes l (ns ++ n ∷ more) x → Wants l ns
 makes_wants (done y) [] n more x m = absurd m
@@ -165,9 +165,6 @@ bars_fault (field f k) s p q r (m ∷ ns) n b t e =
     (bars_fault (k b.0) s _ q r ns n b.2 (stands_back (written_number m) (flat_map written_number ns) t) e)
 
 -- What is answered at a layout stands there.
-
-pub refused : {T : Type 0} {f : ReadFault} {x : T} → ◌≡◌ {A = Result T ReadFault} (Err f) (Ok x) → ⊥
-refused e = let z : ◌≡◌ {A = ℕ} 0 1 = cc in omega arith
 
 -- s, read from p, makes x with numbers that end at q, or stops after some with the fault g
 pub record Made {T : Type 0} (l : Layout T) (s : List ℕ) (p q : ℕ) (x : T) : Type 0 where

@@ -16,7 +16,6 @@ use Rattle.format.specs.Numbers.{Answer, Bytes, fault}
 use Rattle.format.specs.Openings.{count_at, opening}
 use Rattle.format.specs.Sheets.{Stands, Told}
 use Rattle.format.proofs.EventLaws.{event_wrote}
-use Rattle.format.proofs.LayoutLaws.{refused}
 use Rattle.format.proofs.SheetLaws.{Course, Sofar, course_tells, event_long, sofar_opened, sofar_whole}
 use Rattle.format.proofs.Standing.{stands_join, stands_none}
 
@@ -33,18 +32,18 @@ placed_some p q (Ok x) v e =
     let same : ◌≡◌ {A = Option LocatedEvent × ℕ} (Some (at_place p x.0), x.1) (Some v, q) = cc in
     let one : at_place p x.0 ≡ v = let z = ap (λ y. y.0) same in cc in
     (sym (ap (λ y. y.offset) one), λ i. Ok ((one i).told, (same i).1))
-placed_some p q (Err f) v e = absurd (refused e)
+placed_some p q (Err f) v e = absurd (cc)
 
 placed_none : (p q : ℕ) (r : Answer SectionEvent) → placed p r ≡ Ok (None, q) → ⊥
 placed_none p q (Ok x) e =
     let same : ◌≡◌ {A = Option LocatedEvent × ℕ} (Some (at_place p x.0), x.1) (None, q) = cc in
-    let z : ◌≡◌ {A = ℕ} 0 1 = let w = ap (λ y. y.0) same in cc in
-    omega arith
-placed_none p q (Err f) e = refused e
+    let other = ap (λ y. y.0) same in
+    cc
+placed_none p q (Err f) e = cc
 
 placed_err : (p : ℕ) (r : Answer SectionEvent) (f : ReadFault) → placed p r ≡ Err f → r ≡ Err f
-placed_err p (Ok x) f e = absurd (refused (sym e))
-placed_err p (Err g) f e = let same : g ≡ f = cc in ap Err same
+placed_err p (Ok x) f e = absurd (cc)
+placed_err p (Err g) f e = cc
 
 -- an event is wanted before the sheet's end, and none at it
 next_either : (s : List ℕ) (p : ℕ) → ((p < length s) × (next_at s p ≡ placed p (event_at s p))) ⊎ ((length s ≤ p) × (next_at s p ≡ Ok (None, p)))
@@ -94,8 +93,8 @@ next_wrote s n p r vs v h e =
     none_some : {i j : ℕ} {u : LocatedEvent} → ◌≡◌ {A = Answer (Option LocatedEvent)} (Ok (None, i)) (Ok (Some u, j)) → ⊥
     none_some {i} {j} {u} z =
         let same : ◌≡◌ {A = Option LocatedEvent × ℕ} (None, i) (Some u, j) = cc in
-        let y : ◌≡◌ {A = ℕ} 0 1 = let w = ap (λ y. y.0) same in cc in
-        omega arith
+        let other = ap (λ y. y.0) same in
+        cc
 
 -- one event more, which lies further on
 pub more :
@@ -143,7 +142,7 @@ told_fault s n p vs f h e =
     let stops = placed_err p (event_at s p) f (sym x.1 ∙ e) in
     let course : Course s (Err (Read f)) (Some n) h.es = inr (record { n = n; q = h.q; p = p; counts = refl; sofar = h.sofar; ended = inr (f, x.0, stops, refl) }) in
     record { es = h.es; tells = course_tells s (Err (Read f)) (Some n) h.es h.bytes course; places = h.places })
-    (λ x. absurd (refused (sym e ∙ x.1)))
+    (λ x. absurd (cc (e, x.1)))
     (next_either s p)
 
 pub told_memory :

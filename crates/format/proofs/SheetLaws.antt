@@ -16,7 +16,6 @@ use Rattle.format.specs.Numbers.{Answer, Bytes, fault, number_at}
 use Rattle.format.specs.Openings.{counted, opening}
 use Rattle.format.specs.Sheets.{Begins, GoesOn, Malformed, Nothing, Outcome, ReadUpTo, SectionCount, Sheet, Stands, StopsFor, Tells, Wanted}
 use Rattle.format.proofs.EventLaws.{bars_stuck, event_reads, event_stopped, number_stops, value_stops, wants_begun}
-use Rattle.format.proofs.LayoutLaws.{refused}
 use Rattle.format.proofs.NumberLaws.{NumberTold, cut_ends, malformed_stops, number_reads, number_told, number_wrote, written_long}
 use Rattle.format.proofs.Standing.{stands_front, stands_back, stands_inside, stands_join, stands_whole, stands_within}
 
@@ -176,21 +175,6 @@ course_tells s r c es B t =
 
 -- What a sheet is, is answered.
 
-some_none : {n : ℕ} → Some n ≡ None → ⊥
-some_none e = let z : ◌≡◌ {A = ℕ} 0 1 = cc in omega arith
-
-same_fault : {T : Type 0} {f g : ReadFault} → ◌≡◌ {A = Result T ReadFault} (Err f) (Err g) → f ≡ g
-same_fault e = cc
-
-same_why : {f g : RunFault} → ◌≡◌ {A = Result (ℕ × ℕ) RunFault} (Err f) (Err g) → f ≡ g
-same_why e = cc
-
-no_opening : {f : RunFault} {x : ℕ × ℕ} → ◌≡◌ {A = Result (ℕ × ℕ) RunFault} (Err f) (Ok x) → ⊥
-no_opening e = let z : ◌≡◌ {A = ℕ} 0 1 = cc in omega arith
-
-same_opening : {n q m r : ℕ} → ◌≡◌ {A = Result (ℕ × ℕ) RunFault} (Ok (n, q)) (Ok (m, r)) → (n ≡ m) × (q ≡ r)
-same_opening {n} {q} {m} {r} e = let same : ◌≡◌ {A = ℕ × ℕ} (n, q) (m, r) = cc in (ap (λ z. z.0) same, ap (λ z. z.1) same)
-
 pub event_long : (e : SectionEvent) → 1 ≤ length (written_event e)
 event_long e = simp length-append (omega (arith, written_long (kind_number (kind_of e.event))))
 
@@ -255,7 +239,7 @@ module _ (s : List ℕ) where
       wanted_count s o es t.numbers (fault Ends o) t.short t.wanted (cut_ends s o (omega (arith, t.wanted.0)) t.cut)
   stops_course Ends o (Some n) es t =
       let within : o ≤ length s = stands_within (omega arith) t.wanted.stands in
-      let left : 0 < length t.numbers + length (drop o s) = ⊎_elim (λ e. absurd (some_none e)) (λ i. i) t.inside in
+      let left : 0 < length t.numbers + length (drop o s) = ⊎_elim (λ e. cc) (λ i. i) t.inside in
       number_fault s o n es t.numbers t.short t.wanted (fault Ends o) (cut_ends s o within t.cut) left
   stops_course Form o None es t =
       wanted_count s t.place es t.numbers (fault Form o) t.short t.wanted (malformed_stops s t.place o (omega (arith, t.wanted.0)) t.malformed)
@@ -310,7 +294,7 @@ module _ (s : List ℕ) where
       (λ x.
       ⊎_elim
       (λ y. absurd (omega (arith, x.1, y.0)))
-      (λ y. x.3 ∙ ap (λ (f : ReadFault). Err (Read f)) (same_fault (sym x.2 ∙ y.2)) ∙ sym y.3)
+      (λ y. cc (x.2, x.3, y.2, y.3))
       b)
       a
 
@@ -319,7 +303,7 @@ module _ (s : List ℕ) where
   ended_event p q r e h t d =
       ⊎_elim
       (λ x. omega (arith, x.0, stands_inside t (event_long e)))
-      (λ x. refused (sym x.2 ∙ event_reads e s p q h t))
+      (λ x. cc (x.2, event_reads e s p q h t))
       d
 
   -- the same events are read up to where reading ends
@@ -352,17 +336,17 @@ module _ (s : List ℕ) where
       ⊎_elim
       (λ x.
       ⊎_elim
-      (λ y. (x.answer ∙ ap Err (same_why (sym x.opened ∙ y.opened)) ∙ sym y.answer, x.nothing.0 ∙ sym y.nothing.0, x.nothing.1 ∙ sym y.nothing.1))
-      (λ y. absurd (no_opening (sym x.opened ∙ y.sofar.opened)))
+      (λ y. (cc, cc, cc))
+      (λ y. absurd (cc (x.opened, y.sofar.opened)))
       b)
       (λ x.
       ⊎_elim
-      (λ y. absurd (no_opening (sym y.opened ∙ x.sofar.opened)))
+      (λ y. absurd (cc (y.opened, x.sofar.opened)))
       (λ y.
-      let same = same_opening (sym x.sofar.opened ∙ y.sofar.opened) in
+      let same : ◌≡◌ {A = ℕ × ℕ} (x.n, x.q) (y.n, y.q) = cc (x.sofar.opened, y.sofar.opened) in
       let rest =
       events_one es ds x.q x.p y.p r t x.sofar.stands x.sofar.proper x.ended
-      (subst (λ z. Stands s z y.p (flat_map written_event ds)) (sym same.1) y.sofar.stands) y.sofar.proper y.ended in
-      (rest.0, x.counts ∙ ap Some same.0 ∙ sym y.counts, rest.1))
+      (subst (λ z. Stands s z y.p (flat_map written_event ds)) (sym (ap (λ z. z.1) same)) y.sofar.stands) y.sofar.proper y.ended in
+      (rest.0, x.counts ∙ ap (λ z. Some z.0) same ∙ sym y.counts, rest.1))
       b)
       a

@@ -6,7 +6,7 @@ ghost use Rattle.format.specs.declared.fault.RunFault.TheVariants.{Read, Memory}
 use std::alloc::AllocFailed;
 
 // A fault of the bytes. A discriminant is the fault's number.
-#[derive(Clone, Copy)]
+#[derive(Clone, Copy, Debug, PartialEq, Eq)]
 pub enum Reason {
     // The sheet ends inside a number or an event.
     Ends = 1,
@@ -16,14 +16,14 @@ pub enum Reason {
     Value = 3,
 }
 
-#[derive(Clone, Copy)]
+#[derive(Clone, Copy, Debug, PartialEq, Eq)]
 pub struct ReadFault {
     pub reason: Reason,
     pub offset: usize,
 }
 
 // Why a run ends before its sheet does. A reader's fault is kept as it was told.
-#[derive(Clone, Copy)]
+#[derive(Clone, Copy, Debug, PartialEq, Eq)]
 pub enum RunFault {
     Read(ReadFault),
     // The section count is not 1 to 8.
@@ -32,8 +32,8 @@ pub enum RunFault {
     Memory,
 }
 
-// A fault as it is printed.
-#[derive(Clone, Copy)]
+// A fault as it is printed, so that its number is one: an enum here would say once more what `RunFault` says.
+#[derive(Clone, Copy, Debug, PartialEq, Eq)]
 pub struct Stop {
     pub number: u16,
     pub offset: usize,

@@ -1,8 +1,7 @@
 -- The lines of a listing, from its first to its last. Assumes nothing.
-use Rattle.std.specs.Prelude.{ℕ, ◌+◌, List, [], ◌∷◌, Some, None, codes, decimal, Option}
+use Rattle.std.specs.Prelude.{ℕ, ◌+◌, List, [], ◌∷◌, Some, None, Ok, Err, codes, decimal, Option, Result}
 use Rattle.events.specs.declared.event.LocatedEvent.{LocatedEvent}
-use Rattle.listing.specs.declared.ending.Ending.{Ending}
-use Rattle.listing.specs.declared.ending.Ending.TheVariants.{End, Stop}
+use Rattle.format.specs.declared.fault.Stop.{Stop}
 use Rattle.words.specs.Words.{event_words, ◌then◌}
 
 -- A line, without its newline.
@@ -14,9 +13,10 @@ sections_text count = codes "sections " then decimal count
 abbrev pub event_text : ℕ → LocatedEvent → List ℕ
 event_text index x = decimal index then codes " at " then decimal x.offset then codes ": section " then decimal x.told.section then codes " " then event_words x.told.event
 
-abbrev pub ending_text : Ending → List ℕ
-ending_text (End count) = codes "end " then decimal count
-ending_text (Stop stop) = codes "stop " then decimal stop.number then codes " at " then decimal stop.offset
+-- reading ended with so many events, or at a fault
+abbrev pub ending_text : Result ℕ Stop → List ℕ
+ending_text (Ok count) = codes "end " then decimal count
+ending_text (Err stop) = codes "stop " then decimal stop.number then codes " at " then decimal stop.offset
 
 -- The lines together, each with its newline.
 
@@ -33,5 +33,5 @@ abbrev pub event_lines : ℕ → List LocatedEvent → List ℕ
 event_lines index [] = []
 event_lines index (x ∷ xs) = ended (event_text index x) then event_lines (index + 1) xs
 
-abbrev pub listing_text : Option ℕ → List LocatedEvent → Ending → List ℕ
+abbrev pub listing_text : Option ℕ → List LocatedEvent → Result ℕ Stop → List ℕ
 listing_text sections events ending = opening_lines sections then event_lines 0 events then ended (ending_text ending)

@@ -1,7 +1,7 @@
 // The text that tells what a sheet holds.
 #![tactic(auto)]
 
-mod ending;
+mod ending_line;
 mod event_line;
 mod sections_line;
 pub mod text;

@@ -1,51 +1,34 @@
 // The listing of a sheet.
 ghost use Rattle.std.specs.Prelude.{◌≡◌, ◌++◌, IfOk, string_bytes, OnOk};
-ghost use Rattle.listing.specs.Lines.{ended, event_lines, event_text, listing_text, opening_lines};
-ghost use Rattle.listing.specs.Listings.{Lists};
+ghost use Rattle.listing.specs.Lines.{event_lines};
+ghost use Rattle.listing.specs.Listings.{Lists, ending_of};
 
-use crate::ending::Ending;
+use crate::ending_line::EndingLine;
 use crate::event_line::EventLine;
 use crate::sections_line::SectionsLine;
 use events::event::LocatedEvent;
+use format::fault::{RunFault, Stop};
 use reader::reading::Reading;
 use std::alloc::{AllocError, Global};
 
-// The first line, where the section count was read.
-fn write_opening(text: &mut String, sections: Option<u16>) -> Result<(), AllocError>
-    ensures { OnOk result (string_bytes text.new ≡ string_bytes text.old ++ opening_lines sections) }
+// How reading ended: with so many events, or at a fault of the sheet. Want of memory is neither.
+fn ending_after(outcome: Result<(), RunFault>, count: usize) -> Option<Result<usize, Stop>>
+    ensures { result ≡ ending_of outcome count }
 {
-    let Some(count) = sections else {
-        return Ok(());
-    };
-    let line = SectionsLine(count);
-    writeln!(text, "{line}")
-}
-
-// The line of one event.
-fn write_event(text: &mut String, index: usize, located: LocatedEvent) -> Result<(), AllocError>
-    ensures { OnOk result (string_bytes text.new ≡ string_bytes text.old ++ ended (event_text index located)) }
-{
-    let line = EventLine { index, located };
-    writeln!(text, "{line}")
+    match outcome {
+        Ok(()) => Some(Ok(count)),
+        Err(fault) => fault.stop().map(Err),
+    }
 }
 
 // A line for each event.
 fn write_events(text: &mut String, events: &[LocatedEvent]) -> Result<(), AllocError>
     ensures { OnOk result (string_bytes text.new ≡ string_bytes text.old ++ event_lines 0 events.now) }
 {
-    for (index, located) in events.iter().enumerate() {
-        write_event(text, index, *located)?;
+    for (index, &located) in events.iter().enumerate() {
+        let line = EventLine { index, located };
+        writeln!(text, "{line}")?;
     }
-    Ok(())
-}
-
-// Every line.
-fn write_listing(text: &mut String, reading: &Reading, ending: Ending) -> Result<(), AllocError>
-    ensures { OnOk result (string_bytes text.new ≡ string_bytes text.old ++ listing_text reading.now.sections reading.now.events.items ending) }
-{
-    write_opening(text, reading.sections)?;
-    write_events(text, reading.events.as_slice())?;
-    writeln!(text, "{ending}")?;
     Ok(())
 }
 
@@ -55,10 +38,14 @@ pub fn listing(heap: Global, sheet: &[u8]) -> Result<String, AllocError>
 {
     let mut reading = Reading::new(heap);
     let outcome = reading.read(sheet);
-    let Some(ending) = Ending::of(outcome, reading.events.len()) else {
-        return Err(AllocError);
-    };
+    let ending = ending_after(outcome, reading.events.len()).ok_or(AllocError)?;
     let mut text = String::new(heap);
-    write_listing(&mut text, &reading, ending)?;
+    if let Some(count) = reading.sections {
+        let line = SectionsLine(count);
+        writeln!(text, "{line}")?;
+    }
+    write_events(&mut text, &reading.events)?;
+    let line = EndingLine(ending);
+    writeln!(text, "{line}")?;
     Ok(text)
 }

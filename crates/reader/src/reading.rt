@@ -7,20 +7,14 @@ ghost use Rattle.format.specs.Sheets.{AnswersExactly, OneReading, Told};
 use cursor::Cursor;
 use events::event::LocatedEvent;
 use format::fault::RunFault;
+use format::sections::section_count;
 use std::alloc::Global;
-
-// The most sections of a bench.
-const MOST_SECTIONS: u16 = 8;
 
 // The section count, from 1 to 8.
 fn sections(cursor: &mut Cursor) -> Result<u16, RunFault>
     ensures { Goes count_at cursor.old cursor.new result }
 {
-    let count = cursor.number()?;
-    if count < 1 || count > MOST_SECTIONS {
-        return Err(RunFault::Sections);
-    }
-    Ok(count)
+    section_count(cursor.number()?)
 }
 
 // The section count, once it is read, and the events so far, each with the offset of its first byte.

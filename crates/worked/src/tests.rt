@@ -2,7 +2,7 @@
 use axle_counter::AxleCounter;
 use detector::{Detector, Reading as Shown};
 use events::event::{Event, LocatedEvent};
-use format::fault::RunFault;
+use format::fault::{ReadFault, Reason, RunFault};
 use reader::reading::Reading;
 use track_row::TrackRow;
 
@@ -25,8 +25,12 @@ fn a_sound_sheet_is_told_whole(rt: HostRuntime) {
 fn events_before_a_fault_are_kept(rt: HostRuntime) {
     let mut reading = Reading::new(rt.alloc());
     let fault = reading.read(&[1, 0, 0, 0, 15]).err();
-    assert!(rt;
-        matches!(fault, Some(RunFault::Read(told)) if told.reason as u8 == 3 && told.offset == 4)
+    assert_eq!(rt;
+        fault,
+        Some(RunFault::Read(ReadFault {
+            reason: Reason::Value,
+            offset: 4
+        }))
     );
     assert!(rt; reading.sections == Some(1));
     assert!(rt; reading.events.len() == 1);
@@ -35,7 +39,7 @@ fn events_before_a_fault_are_kept(rt: HostRuntime) {
 #[test]
 fn nine_sections_are_too_many(rt: HostRuntime) {
     let mut reading = Reading::new(rt.alloc());
-    assert!(rt; matches!(reading.read(&[9]), Err(RunFault::Sections)));
+    assert_eq!(rt; reading.read(&[9]), Err(RunFault::Sections));
     assert!(rt; reading.sections.is_none());
 }
 

@@ -1,15 +1,22 @@
-use Rattle.std.proofs.Common.{◌≡◌, ℕ, ◌<◌, [], ◌∷◌, ◌++◌, length, is_ok, None, Ok, Err, vec_items, Result, sym, refl, ap, ◌∙◌, subst, arith, rules}
+use Rattle.std.proofs.Common.{◌≡◌, ℕ, ◌<◌, List, Option, [], ◌∷◌, ◌++◌, length, is_ok, None, Ok, Err, vec_items, Result, sym, refl, ap, ◌∙◌, subst, arith, rules}
 use Rattle.std.proofs.ResultArms.{chosen}
 use Rattle.std.proofs.lemmas.Result.{err_from_is_err_and}
+use Rattle.events.specs.declared.event.LocatedEvent.{LocatedEvent}
 use Rattle.format.specs.declared.fault.RunFault.{RunFault}
 use Rattle.format.specs.declared.fault.RunFault.TheVariants.{Read}
 use Rattle.format.specs.Numbers.{Bytes}
 use Rattle.format.specs.Openings.{count_at, opening}
-use Rattle.format.specs.Sheets.{Told}
+use Rattle.format.specs.Sheets.{AnswersExactly, OneReading, Outcome, Told}
 use Rattle.format.proofs.Exactness.{answers_exactly, one_reading}
 use Rattle.format.proofs.Progress.{Progress, more, next_in, opening_long, opening_short, start, told_end, told_fault, told_memory, told_opening}
 use Rattle.reader.proofs.reading.Reading.read.Goals as goal
 use Rattle.reader.proofs.reading.Reading.read.Goals.{In_ok-cursor, In_ok-push}
+
+-- what is told says all that the answer is
+told_whole :
+    (s : List ℕ) (r : Outcome) (sections : Option ℕ) (events : List LocatedEvent) → Told s r sections events
+    → record { told : Told s r sections events; exactly : AnswersExactly s r; one : OneReading s }
+told_whole s r sections events told = record { told = told; exactly = answers_exactly s r sections events told; one = one_reading s }
 
 -- what the count's call answers is what the sheet opens with
 opened : (c : In_ok-cursor) (r : Result (ℕ × ℕ) RunFault) → count_at c.in_ok-cursor.cursor.sheet.now c.in_ok-cursor.cursor.at ≡ r → opening c.args.sheet.now ≡ r
@@ -25,7 +32,7 @@ returns-in_err-cursor c =
     let bytes : Bytes s = search rules in
     let told : Told s (Err (Read c.in_err-cursor.field-0.0)) None [] =
     told_opening s _ bytes (opening_long s o.0 ∙ ap (λ f. Err (Read f)) (sym o.1)) in
-    rw (p.1, p.2, c.forget.ensures.0, c.forget.ensures.1) (record { told = told; exactly = answers_exactly s _ _ _ told; one = one_reading s })
+    rw (p.1, p.2, c.forget.ensures.0, c.forget.ensures.1) (told_whole s _ _ _ told)
 
 pub returns-in_err-sections : goal.returns-in_err-sections
 returns-in_err-sections c =
@@ -33,7 +40,7 @@ returns-in_err-sections c =
     let s = c.args.sheet.now in
     let bytes : Bytes s = search rules in
     let told = told_opening s _ bytes (opened (goal.at.returns-in_err-sections c).In_ok-cursor _ c.in_err-sections.ensures.answer) in
-    rw (p.1, p.2, c.forget.ensures.0, c.forget.ensures.1) (record { told = told; exactly = answers_exactly s _ _ _ told; one = one_reading s })
+    rw (p.1, p.2, c.forget.ensures.0, c.forget.ensures.1) (told_whole s _ _ _ told)
 
 pub loop-event-init : goal.loop-event-init
 loop-event-init c =
@@ -49,7 +56,7 @@ returns-in_err-event c =
     let s = c.args.sheet.now in
     let inv = c.loop-event.invariant in
     let told = told_fault s inv.1.0 _ _ _ inv.1.2 (next_in _ _ _ _ inv.0 c.in_err-event.ensures.answer.0) in
-    rw (p.1, p.2, inv.1.1) (record { told = told; exactly = answers_exactly s _ _ _ told; one = one_reading s })
+    rw (p.1, p.2, inv.1.1) (told_whole s _ _ _ told)
 
 -- the event that was read, and where the next one begins
 further :
@@ -78,11 +85,11 @@ returns-in_err-push c =
     let told =
     told_memory s inv.1.0 _ _ _ _ inv.1.2
     (next_in _ _ _ _ inv.0 c.in_ok-event.ensures.answer ∙ ap (λ v. Ok (v, c.event.new.self.at)) c.in-Some.is) in
-    rw (p.1, p.2, inv.1.1, c.in_err-push.ensures.items) (record { told = told; exactly = answers_exactly s _ _ _ told; one = one_reading s })
+    rw (p.1, p.2, inv.1.1, c.in_err-push.ensures.items) (told_whole s _ _ _ told)
 
 pub returns : goal.returns
 returns c =
     let s = c.args.sheet.now in
     let inv = c.loop-event.invariant in
     let told = told_end s inv.1.0 _ _ _ inv.1.2 (next_in _ _ _ _ inv.0 c.in_ok-event.ensures.answer ∙ ap (λ v. Ok (v, c.event.new.self.at)) c.in_default.is) in
-    rw inv.1.1 (record { told = told; exactly = answers_exactly s _ _ _ told; one = one_reading s })
+    rw inv.1.1 (told_whole s _ _ _ told)
