@@ -53,7 +53,7 @@ impl<'a> Cursor<'a> {
     {
         let start = self.at;
         let number = self.number()?;
-        T::from_number(number).ok_or(ReadFault {
+        T::try_from(number).map_err(|_| ReadFault {
             reason: Reason::Value,
             offset: start,
         })

@@ -5,8 +5,6 @@
 ghost use Rattle.runs.specs.Laws.{Laws};
 
 // Stands for the theorem that its contract states.
-pub fn every_run_is_lawful() -> u8
+pub fn every_run_is_lawful()
     ensures { Laws }
-{
-    0
-}
+{}

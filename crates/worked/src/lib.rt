@@ -7,8 +7,6 @@ ghost use Rattle.worked.specs.Cases.{WorkedCases};
 mod tests;
 
 // Stands for the theorem that its contract states.
-pub fn worked_cases_stand() -> u8
+pub fn worked_cases_stand()
     ensures { WorkedCases }
-{
-    0
-}
+{}
