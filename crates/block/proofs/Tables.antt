@@ -4,7 +4,7 @@ use Rattle.std.proofs.lemmas.Bool.{lt-ltb}
 use Rattle.std.proofs.lemmas.Option.{same_Some}
 use Rattle.std.proofs.lemmas.List.{get_or-drop, get_or-set_other, set-get_or}
 use Rattle.bank.specs.Places.{no_detector, read_at}
-use Rattle.block.specs.Tables.{Consistent, states, with_detectors, with_section}
+use Rattle.block.specs.Tables.{states, with_detectors, with_section}
 use Rattle.detector.specs.Meaning.{Meaning, fresh, reading_of}
 use Rattle.detector.specs.declared.Action.{Action}
 use Rattle.detector.specs.declared.Reading.{Reading}

@@ -1,9 +1,10 @@
 -- What `Bench::work` has found, decided and put back is what the rules say of the bench. Assumes nothing.
-use Rattle.std.proofs.Common.{◌≡◌, ℕ, ◌<◌, List, length, set, Ok, Err, Result, sym, refl, ap, ◌∙◌, arith}
+use Rattle.std.proofs.Common.{◌≡◌, ℕ, ◌<◌, length, set, Ok, Err, Result, sym, ap, ◌∙◌}
 use Rattle.std.proofs.lemmas.List.{get_or-set_same, set-set}
 use Rattle.answer.specs.Answers.{Verdict, checked, given_that, unless_refused}
 use Rattle.answer.specs.declared.Answer.{Answer}
 use Rattle.answer.specs.declared.Refusal.{Refusal}
+use Rattle.block.proofs.Answers.{when_err, when_ok}
 use Rattle.block.specs.Tables.{with_detectors, with_section}
 use Rattle.events.specs.declared.event.Event.{Event}
 use Rattle.runs.specs.Benches.{BenchState, no_section, section_at}
@@ -12,20 +13,6 @@ use Rattle.section.specs.States.{SectionState, readings_of, state_after, state_n
 use Rattle.section.specs.declared.section.Readings.{Readings}
 use Rattle.section.specs.declared.section.Section.{Section}
 use Rattle.section.specs.declared.section.Worked.{Worked}
-
-not_both : {A : Type 0} {x : A} {r : Refusal} → ◌≡◌ {A = Result A Refusal} (Ok x) (Err r) → ⊥
-not_both e = let z : ◌≡◌ {A = ℕ} 0 1 = cc in omega arith
-
-inside : {A : Type 0} {x y : A} → ◌≡◌ {A = Result A Refusal} (Ok x) (Ok y) → x ≡ y
-inside e = cc
-
-pub when_ok : {A : Type 0} (v : Verdict) (w x : A) → given_that v w ≡ Ok x → (v ≡ Ok tt) × (w ≡ x)
-when_ok (Ok _) w x e = (refl, inside e)
-when_ok (Err r) w x e = absurd (not_both (sym e))
-
-pub when_err : {A : Type 0} (v : Verdict) (w : A) (r : Refusal) → given_that v w ≡ Err r → v ≡ Err r
-when_err (Ok _) w r e = absurd (not_both e)
-when_err (Err f) w r e = let same : f ≡ r = cc in ap Err same
 
 -- the section at i as it was found, and the answer that its instruments gave
 module _ (b : BenchState) (i : ℕ) (e : Event) (within : i < length b) (s : Section) (x : Readings) (w : Result Worked Refusal) where

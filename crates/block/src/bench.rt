@@ -66,6 +66,7 @@ impl<D: Detector> Bench<D> {
         })
     }
 
+    #[tactic(auto, using(crate::proofs::Tables::length_states))]
     pub(crate) fn has(&self, at: usize) -> bool
         ensures { IsTrue result ↔ (at < length self.now) }
     {
@@ -73,6 +74,7 @@ impl<D: Detector> Bench<D> {
     }
 
     // The record of a section, as it was put.
+    #[tactic(auto, using(crate::proofs::Tables::length_states, crate::proofs::Tables::record_at))]
     pub(crate) fn section(&self, at: usize) -> Section
         requires { at < length self.now }
         ensures section { result ≡ (section_at at self.now).section }
@@ -81,6 +83,7 @@ impl<D: Detector> Bench<D> {
         self.sections[at]
     }
 
+    #[tactic(auto, using(crate::proofs::Tables::length_states, crate::proofs::Tables::put_at))]
     pub(crate) fn put(&mut self, at: usize, section: Section)
         requires within { at < length self.old }
         requires consistent { Consistent section }
@@ -90,6 +93,7 @@ impl<D: Detector> Bench<D> {
     }
 
     // What the two detectors of a section read.
+    #[tactic(auto, using(crate::proofs::Tables::length_states, crate::proofs::Tables::is_read))]
     pub(crate) fn readings(&self, at: usize) -> Readings
         requires { at < length self.now }
         ensures { result ≡ state_readings (section_at at self.now) }
@@ -103,6 +107,7 @@ impl<D: Detector> Bench<D> {
     }
 
     // Tells each of the two detectors of a section something, or nothing.
+    #[tactic(auto, using(crate::proofs::Tables::length_states))]
     pub(crate) fn tell(&mut self, at: usize, actions: Actions)
         requires { at < length self.old }
         ensures { self.new ≡ slice_set self.old at (with_detectors (told actions.up (section_at at self.old).up) (told actions.down (section_at at self.old).down) (section_at at self.old)) }

@@ -1,4 +1,4 @@
-use Rattle.std.proofs.Common.{arith, rules}
+use Rattle.std.proofs.Common.{rules}
 use Rattle.section.specs.Sections.{fresh_section}
 use Rattle.block.proofs.Tables.{states_fresh}
 use Rattle.block.proofs.bench.Bench.fresh.Goals as goal
