@@ -43,15 +43,10 @@ set_twice (t ∷ ss) (m ∷ n ∷ ms) (suc i) s u d h j = ap (λ l. state t m n 
 
 -- the section i has the detectors 2 i and 2 i + 1
 pub state_at : (ss : List Section) (ms : List Meaning) (i : ℕ) (d : SectionState) (e : Section) → i < length ss → get_or (states ss ms) i d ≡ state (get_or ss i e) (get_or ms (2 * i) no_detector) (get_or ms (2 * i + 1) no_detector)
-state_at ss ms i d e h =
-    let next = subst (λ m. get_or (states ss ms) i d ≡ state (get_or ss i e) (get_or ms (twice i) no_detector) (get_or ms m no_detector)) (sym (add-one (twice i))) (at_twice ss ms i d e h) in
-    subst (λ n. get_or (states ss ms) i d ≡ state (get_or ss i e) (get_or ms n no_detector) (get_or ms (n + 1) no_detector)) (twice_is i) next
+state_at ss ms i d e h = rw (← twice_is i, add-one (twice i)) (at_twice ss ms i d e h)
 
 pub set_state : (ss : List Section) (ms : List Meaning) (i : ℕ) (s : Section) (u d : Meaning) → i < length ss → 2 * i + 1 < length ms → states (set ss i s) (set (set ms (2 * i) u) (2 * i + 1) d) ≡ set (states ss ms) i (state s u d)
-set_state ss ms i s u d h j =
-    let within : suc (twice i) < length ms = omega (arith, twice_is i) in
-    let next = subst (λ m. states (set ss i s) (set (set ms (twice i) u) m d) ≡ set (states ss ms) i (state s u d)) (sym (add-one (twice i))) (set_twice ss ms i s u d h within) in
-    subst (λ n. states (set ss i s) (set (set ms n u) (n + 1) d) ≡ set (states ss ms) i (state s u d)) (twice_is i) next
+set_state ss ms i s u d h j = rw (← twice_is i, add-one (twice i)) (set_twice ss ms i s u d h (omega (arith, twice_is i)))
 
 all_fresh : (n : ℕ) (s : Section) (ms : List Meaning) → ((k : ℕ) → get_or ms k no_detector ≡ fresh) → states (replicate n s) ms ≡ replicate n (state s fresh fresh)
 all_fresh zero s ms each = refl

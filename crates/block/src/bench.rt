@@ -3,7 +3,7 @@ ghost use Rattle.std.specs.Prelude.{◌≡◌, ◌+◌, ◌*◌, ◌<◌, ◌≤
 ghost use Rattle.bank.specs.Banks.{sixteen};
 ghost use Rattle.bank.specs.Places.{no_detector};
 ghost use Rattle.block.specs.Tables.{Consistent, states, with_detectors, with_section};
-ghost use Rattle.block.specs.States.{Miscounted};
+ghost use Rattle.block.specs.Faults.{Miscounted};
 ghost use Rattle.format.specs.Sheets.{SectionCount};
 ghost use Rattle.runs.specs.Benches.{BenchState, fresh_bench, section_at};
 ghost use Rattle.section.specs.States.{state_readings, told};
@@ -18,8 +18,7 @@ use std::marker::Model;
 // The most sections of a bench.
 const MOST_SECTIONS: u16 = 8;
 
-// A section is a plain record in a table; a detector, of any kind, is held by value in a bank and told by its number.
-// So sections and detectors stand side by side.
+// By the project's rule, sections are plain records in a table and detectors are held by value in a bank, told by number.
 #[derive(Drop)]
 pub struct Bench<D: Detector> {
     sections: Vec<Section>,
@@ -62,7 +61,7 @@ impl<D: Detector> Bench<D> {
         }
         Ok(Bench {
             sections: vec![in heap; Section::fresh(); sections as usize]?,
-            bank: <bank::Pair<_> as Bank>::fresh(),
+            bank: Bank::fresh(),
         })
     }
 

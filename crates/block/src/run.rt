@@ -1,6 +1,6 @@
 // A whole run: a fresh bench over any kind of detector, and each event of a list in turn.
 ghost use Rattle.std.specs.Prelude.{◌≡◌, MatchResult};
-ghost use Rattle.block.specs.States.{Miscounted};
+ghost use Rattle.block.specs.Faults.{Miscounted};
 ghost use Rattle.format.specs.Sheets.{SectionCount};
 ghost use Rattle.runs.specs.Benches.{answer_at, bench_after, face_at};
 ghost use Rattle.runs.specs.Runs.{RunOf};
@@ -43,6 +43,7 @@ pub fn run<D: Detector + Drop>(
 {
     let mut bench = Bench::fresh(heap, sections)?;
     let mut entries = Vec::new(heap);
+    // Each event changes the bench, so this is a loop and no `map`.
     for event in events {
         entries.push(bench.enter(*event))?;
     }

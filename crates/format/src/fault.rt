@@ -78,6 +78,6 @@ impl From<AllocError> for RunFault {
     ghost from_gives = { λ _ r. r ≡ Memory };
 
     fn from(_refused: AllocError) -> RunFault {
-        Self::Memory
+        RunFault::Memory
     }
 }
