@@ -54,9 +54,8 @@ module _ (b : BenchState) (i : ℕ) (e : Event) (within : i < length b) (s : Sec
         let told_up : u ≡ told (actions_of here.section e).up here.up = ap (λ (z : Worked). told z.actions.up here.up) (sym yes.1) in
         let told_down : d ≡ told (actions_of here.section e).down here.down = ap (λ (z : Worked). told z.actions.down here.down) (sym yes.1) in
         let put : with_section after (with_detectors u d here) ≡ state_after here e = cc (settles, shown, changed, told_up, told_down) in
-        let made : with_section after (section_at i b') ≡ state_after here e = ap (with_section after) told_here ∙ put in
-        (
+        let made : with_section after (section_at i b') ≡ state_after here e = ap (with_section after) told_here ∙ put in (
           ap (λ (z : Worked). Ok z.answer) (sym yes.1) ∙ ap (λ v. given_that v (outcome here.section e)) (sym yes.0),
           puts ∙ ap (λ v. set b' i v) made ∙ ap (λ l. set l i (state_after here e)) tells ∙ set-set b i (with_detectors u d here) (state_after here e)
-          ∙ ap (λ v. unless_refused v (set b i (state_after here e)) b) (sym yes.0),
+              ∙ ap (λ v. unless_refused v (set b i (state_after here e)) b) (sym yes.0),
         )

@@ -34,6 +34,7 @@ impl<D: Detector> Bench<D> {
 }
 
 // Answers every event on a fresh bench, in order.
+#[tactic(auto, using(crate::proofs::Runs::none_yet))]
 pub fn run<D: Detector + Drop>(
     heap: Global,
     sections: u16,
