@@ -2,8 +2,8 @@
 ghost use Rattle.std.specs.Prelude.{◌≡◌, ◌+◌, ◌*◌, ◌<◌, ◌≤◌, ◌↔◌, IsTrue, All, length, vec_len, slice_index_or, slice_set, MatchResult};
 ghost use Rattle.bank.specs.Banks.{sixteen};
 ghost use Rattle.bank.specs.Places.{no_detector};
-ghost use Rattle.block.specs.Tables.{Consistent, states, with_detectors, with_section};
 ghost use Rattle.block.specs.Faults.{Miscounted};
+ghost use Rattle.block.specs.Tables.{Consistent, states, with_detectors, with_section};
 ghost use Rattle.format.specs.Sheets.{SectionCount};
 ghost use Rattle.runs.specs.Benches.{BenchState, fresh_bench, section_at};
 ghost use Rattle.section.specs.States.{state_readings, told};
@@ -39,7 +39,8 @@ fn detectors_of(at: usize) -> (usize, usize)
     requires { at < 8 }
     ensures { result ≡ (2 * at, 2 * at + 1) }
 {
-    (2 * at, 2 * at + 1)
+    let up = 2 * at;
+    (up, up + 1)
 }
 
 // Tells a detector of a bank something, or nothing.
