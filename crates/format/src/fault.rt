@@ -3,7 +3,7 @@ ghost use Rattle.std.specs.Prelude.{◌≡◌};
 ghost use Rattle.format.specs.Stops.{stop_of};
 ghost use Rattle.format.specs.declared.fault.RunFault.TheVariants.{Read, Memory};
 
-use std::alloc::AllocFailed;
+use std::alloc::{AllocError, AllocFailed};
 
 // A fault of the bytes. A discriminant is the fault's number.
 #[derive(Clone, Copy, Debug, PartialEq, Eq)]
@@ -71,5 +71,13 @@ impl<T: Drop> From<AllocFailed<T>> for RunFault {
 
     fn from(_refused: AllocFailed<T>) -> RunFault {
         Self::Memory
+    }
+}
+
+impl From<AllocError> for RunFault {
+    ghost from_gives = { λ _ r. r ≡ Memory };
+
+    fn from(_refused: AllocError) -> RunFault {
+        RunFault::Memory
     }
 }

@@ -1,8 +1,6 @@
-use Rattle.std.proofs.Common.{vec_items}
-use Rattle.block.specs.States.{state_of}
-use Rattle.block.proofs.Runs.{SoFar}
-use Rattle.runs.specs.Benches.{fresh_bench}
+use Rattle.std.proofs.Common.{take, vec_items}
+use Rattle.runs.specs.Runs.{RunOf}
 use Rattle.block.proofs.run.run.Given as goal
 
 abbrev pub invariant-loop-event : goal.invariant-loop-event
-invariant-loop-event g l = SoFar (fresh_bench l.sections) l.events l.event-index (vec_items l.entries) (state_of g.D.Detector.meaning l.bench)
+invariant-loop-event g l = RunOf l.sections (take l.event-index l.events) (vec_items l.entries) l.bench

@@ -1,8 +1,8 @@
 use Rattle.block.proofs.Answers.{as_answer, as_refusal}
 use Rattle.block.proofs.bench.Bench.apply.Goals as goal
 
-pub returns-in-Ok : goal.returns-in-Ok
-returns-in-Ok g c = record { answer = as_answer _ _ _ _ c.judge.ensures.answer c.in-Ok.is; bench = c.judge.ensures.bench }
+pub returns-in-Ok-clause-answer : goal.returns-in-Ok-clause-answer
+returns-in-Ok-clause-answer g c = as_answer _ _ _ _ c.judge.ensures.answer c.in-Ok.is
 
-pub returns-in-Err : goal.returns-in-Err
-returns-in-Err g c = record { answer = as_refusal _ _ _ _ c.judge.ensures.answer c.in-Err.is; bench = c.judge.ensures.bench }
+pub returns-in-Err-clause-answer : goal.returns-in-Err-clause-answer
+returns-in-Err-clause-answer g c = as_refusal _ _ _ _ c.judge.ensures.answer c.in-Err.is
