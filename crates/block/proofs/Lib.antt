@@ -1,4 +1,3 @@
-pub mod Answers
 pub mod Runs
 pub mod Tables
 pub mod Works

@@ -6,8 +6,8 @@ use Rattle.runs.proofs.Runs.{run_of_more, run_of_none, step_of}
 use Rattle.runs.specs.Benches.{BenchState, answer_at, bench_after, face_at, fresh_bench}
 use Rattle.runs.specs.Histories.{entry_of}
 use Rattle.runs.specs.Runs.{RunOf}
-use Rattle.answer.specs.declared.Answer.{Answer}
-use Rattle.section.specs.declared.face.Face.{Face}
+use Rattle.answer.specs.Answers.{Answer}
+use Rattle.section.specs.Sections.{Face}
 use Rattle.section.specs.declared.face.Entry.{Entry}
 
 pub none_yet : (count : ℕ) (b : BenchState) (entries : List Entry) → b ≡ fresh_bench count → entries ≡ [] → RunOf count [] entries b

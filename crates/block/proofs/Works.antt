@@ -1,16 +1,14 @@
 -- What `Bench::work` has found, decided and put back is what the rules say of the bench. Assumes nothing.
 use Rattle.std.proofs.Common.{◌≡◌, ℕ, ◌<◌, length, set, Ok, Err, Result, sym, ap, ◌∙◌}
 use Rattle.std.proofs.lemmas.List.{get_or-set_same, set-set}
-use Rattle.answer.specs.Answers.{Verdict, checked, given_that, unless_refused}
-use Rattle.answer.specs.declared.Answer.{Answer}
+use Rattle.answer.specs.Answers.{Answer, Verdict, checked, given_that, unless_refused}
 use Rattle.answer.specs.declared.Refusal.{Refusal}
-use Rattle.block.proofs.Answers.{when_err, when_ok}
+use Rattle.answer.proofs.Verdicts.{when_err, when_ok}
 use Rattle.block.specs.Tables.{with_detectors, with_section}
 use Rattle.events.specs.declared.event.Event.{Event}
 use Rattle.runs.specs.Benches.{BenchState, no_section, section_at}
-use Rattle.section.specs.Sections.{actions_of, done_by, needs, outcome, section_after, section_settled, worked_by}
+use Rattle.section.specs.Sections.{Readings, actions_of, done_by, needs, outcome, section_after, section_settled, worked_by}
 use Rattle.section.specs.States.{SectionState, readings_of, state_after, state_needs, state_readings, told}
-use Rattle.section.specs.declared.section.Readings.{Readings}
 use Rattle.section.specs.declared.section.Section.{Section}
 use Rattle.section.specs.declared.section.Worked.{Worked}
 
@@ -23,7 +21,7 @@ module _ (b : BenchState) (i : ℕ) (e : Event) (within : i < length b) (s : Sec
   verdict = checked (state_needs here e)
 
   -- what the rules answer, and what they leave
-  abbrev Answers : Result Answer Refusal → BenchState → Type 0
+  abbrev Answers : Answer → BenchState → Type 0
   Answers a after = (a ≡ given_that verdict (outcome here.section e)) × (after ≡ unless_refused verdict (set b i (state_after here e)) b)
 
   module _ (found : s ≡ here.section) (read : x ≡ state_readings here) (answered : w ≡ worked_by s x e) where
@@ -40,7 +38,7 @@ module _ (b : BenchState) (i : ℕ) (e : Event) (within : i < length b) (s : Sec
         → t ≡ unless_refused (checked (needs s x e)) (section_after s e) s
         → b' ≡ set b i (with_detectors (told done.actions.up here.up) (told done.actions.down here.down) here)
         → y ≡ state_readings (section_at i b') → after ≡ section_settled y t → b'' ≡ set b' i (with_section after (section_at i b'))
-        → Answers (Ok done.answer) b''
+        → Answers (Ok done.outcome) b''
     worked done t after b' b'' y ok left tells reads settles puts =
         let yes = when_ok verdict (done_by here.section e) done (sym judged ∙ ok) in
         let u = told done.actions.up here.up in
@@ -55,7 +53,7 @@ module _ (b : BenchState) (i : ℕ) (e : Event) (within : i < length b) (s : Sec
         let told_down : d ≡ told (actions_of here.section e).down here.down = ap (λ (z : Worked). told z.actions.down here.down) (sym yes.1) in
         let put : with_section after (with_detectors u d here) ≡ state_after here e = cc (settles, shown, changed, told_up, told_down) in
         let made : with_section after (section_at i b') ≡ state_after here e = ap (with_section after) told_here ∙ put in (
-          ap (λ (z : Worked). Ok z.answer) (sym yes.1) ∙ ap (λ v. given_that v (outcome here.section e)) (sym yes.0),
+          ap (λ (z : Worked). Ok z.outcome) (sym yes.1) ∙ ap (λ v. given_that v (outcome here.section e)) (sym yes.0),
           puts ∙ ap (λ v. set b' i v) made ∙ ap (λ l. set l i (state_after here e)) tells ∙ set-set b i (with_detectors u d here) (state_after here e)
               ∙ ap (λ v. unless_refused v (set b i (state_after here e)) b) (sym yes.0),
         )

@@ -14,7 +14,7 @@ states (s ∷ ss) ms = record { section = s; up = slice_index_or ms 0 no_detecto
 
 -- both rows of a section keep what a line record keeps
 abbrev pub Consistent : Section → Type 0
-Consistent s = (consistent s.up ≡ true) × (consistent s.down ≡ true)
+Consistent s = (consistent s.lines.up ≡ true) × (consistent s.lines.down ≡ true)
 
 -- the record of a section is put, and its detectors stay
 abbrev pub with_section : Section → SectionState → SectionState

@@ -2,12 +2,12 @@
 ghost use Rattle.std.specs.Prelude.{◌≡◌, ◌<◌, length, slice_set};
 ghost use Rattle.answer.specs.Answers.{checked, given_that, unless_refused};
 ghost use Rattle.events.specs.Written.{within_values};
-ghost use Rattle.runs.specs.Benches.{answer_at, bench_after, face_at, outcome_at, section_at, verdict_at};
+ghost use Rattle.runs.specs.Benches.{answer_at, bench_after, face_at, section_at};
 ghost use Rattle.section.specs.Sections.{outcome};
 ghost use Rattle.section.specs.States.{state_after, state_needs};
 
 use crate::bench::Bench;
-use answer::{Answer, Refusal};
+use answer::{Answer, Refusal, need};
 use detector::Detector;
 use events::event::{Event, SectionEvent};
 use section::face::Face;
@@ -26,43 +26,29 @@ fn is_within_values(event: Event) -> bool
 
 impl<D: Detector> Bench<D> {
     // The event on a section: the bell and the lines answer, the detectors are told, and the signals follow what they read.
-    fn work(&mut self, at: usize, event: Event) -> Result<Answer, Refusal>
+    fn work(&mut self, at: usize, event: Event) -> Answer
         requires { at < length self.old }
         ensures answer { result ≡ given_that (checked (state_needs (section_at at self.old) event)) (outcome (section_at at self.old).section event) }
         ensures bench { self.new ≡ unless_refused (checked (state_needs (section_at at self.old) event)) (slice_set self.old at (state_after (section_at at self.old) event)) self.old }
     {
-        let mut instruments = Instruments::of(self.section(at)).unwrap();
+        let mut instruments = Instruments::try_from(self.section(at)).unwrap();
         let worked = instruments.answer(event, self.readings(at))?;
         self.tell(at, worked.actions);
         instruments.settle(self.readings(at));
-        self.put(at, instruments.into_section());
-        Ok(worked.answer)
+        self.put(at, instruments.into());
+        Ok(worked.outcome)
     }
 
-    // Axles and track are looked at first, then the section, then what the section needs.
-    fn judge(&mut self, event: SectionEvent) -> Result<Answer, Refusal>
-        ensures answer { result ≡ given_that (verdict_at self.old event) (outcome_at self.old event) }
-        ensures bench { self.new ≡ bench_after self.old event }
-    {
-        let at = event.section as usize;
-        if !is_within_values(event.event) {
-            return Err(Refusal::OutsideValues);
-        }
-        if !self.has(at) {
-            return Err(Refusal::NoSection);
-        }
-        self.work(at, event.event)
-    }
-
-    // Answers one event, whatever its section and its values. A refused one leaves the bench as it was.
+    // Answers one event, whatever its section and its values: axles and track are looked at first, then the section, then
+    // what the section needs. A refused one leaves the bench as it was.
     pub fn apply(&mut self, event: SectionEvent) -> Answer
         ensures answer { result ≡ answer_at self.old event }
         ensures bench { self.new ≡ bench_after self.old event }
     {
-        match self.judge(event) {
-            Ok(answer) => answer,
-            Err(refusal) => Answer::Refused(refusal),
-        }
+        let at = event.section as usize;
+        need(is_within_values(event.event), Refusal::OutsideValues)?;
+        need(self.has(at), Refusal::NoSection)?;
+        self.work(at, event.event)
     }
 
     // What is shown of a section, where the bench has it.
@@ -73,6 +59,6 @@ impl<D: Detector> Bench<D> {
         if !self.has(at) {
             return None;
         }
-        Some(Face::of(self.section(at), self.readings(at)))
+        Some(self.section(at).face(self.readings(at)))
     }
 }

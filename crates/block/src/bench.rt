@@ -11,12 +11,10 @@ ghost use Rattle.section.specs.States.{state_readings, told};
 use bank::{Bank, Sixteen};
 use detector::{Action, Detector};
 use format::fault::RunFault;
+use format::sections::section_count;
 use section::section::{Actions, Readings, Section};
 use std::alloc::Global;
 use std::marker::Model;
-
-// The most sections of a bench.
-const MOST_SECTIONS: u16 = 8;
 
 // By the project's rule, sections are plain records in a table and detectors are held by value in a bank, told by number.
 #[derive(Drop)]
@@ -57,11 +55,9 @@ impl<D: Detector> Bench<D> {
     pub fn fresh(heap: Global, sections: u16) -> Result<Bench<D>, RunFault>
         ensures { MatchResult result (λ b. SectionCount sections × (b ≡ fresh_bench sections)) (Miscounted sections) }
     {
-        if !(1..=MOST_SECTIONS).contains(&sections) {
-            return Err(RunFault::Sections);
-        }
+        let count = section_count(sections)?;
         Ok(Bench {
-            sections: vec![in heap; Section::fresh(); sections as usize]?,
+            sections: vec![in heap; Section::fresh(); count as usize]?,
             bank: Bank::fresh(),
         })
     }

@@ -1,8 +1,6 @@
 -- What a line of a section's instruments does is what the rules say of the section. Assumes nothing.
-use Rattle.std.proofs.Common.{◌≡◌, ℕ, Bool, true, false, cond, Some, Ok, Err, Result, sym, refl, ap, ◌∙◌, arith}
-use Rattle.answer.specs.Answers.{Verdict, given_that}
+use Rattle.std.proofs.Common.{◌≡◌, ℕ, Bool, true, false, cond, Some, refl, ap, ◌∙◌, arith}
 use Rattle.answer.specs.declared.Outcome.{Outcome}
-use Rattle.answer.specs.declared.Refusal.{Refusal}
 use Rattle.detector.specs.declared.Action.TheVariants.{CountIn, CountOut}
 use Rattle.events.specs.Directions.{other_direction}
 use Rattle.events.specs.declared.event.Event.TheVariants.{Enters, Leave}
@@ -22,23 +20,6 @@ use Rattle.section.specs.declared.section.Section.{Section}
 pub row_is : (l : Direction) (i : Instruments) → row_of l (section_of i) ≡ (on l i.lines).row
 row_is Up i = refl
 row_is Down i = refl
-
--- A verdict, by what is answered where it holds.
-
-not_both : {A : Type 0} {x : A} {r : Refusal} → ◌≡◌ {A = Result A Refusal} (Ok x) (Err r) → ⊥
-not_both e = let z : ◌≡◌ {A = ℕ} 0 1 = cc in omega arith
-
-pub refused : {A : Type 0} (v : Verdict) (x : A) (r : Refusal) → given_that v x ≡ Err r → v ≡ Err r
-refused (Ok _) x r e = absurd (not_both e)
-refused (Err f) x r e = let same : f ≡ r = cc in ap Err same
-
-pub held : {A : Type 0} (v : Verdict) (x y : A) → given_that v x ≡ Ok y → v ≡ Ok tt
-held (Ok _) x y e = refl
-held (Err f) x y e = absurd (not_both (sym e))
-
-pub held_with : {A : Type 0} (v : Verdict) (x y : A) → given_that v x ≡ Ok y → x ≡ y
-held_with (Ok _) x y e = cc
-held_with (Err f) x y e = absurd (not_both (sym e))
 
 -- What the detectors are told, where something happens to one line.
 

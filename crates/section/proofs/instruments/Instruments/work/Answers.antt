@@ -1,9 +1,10 @@
 use Rattle.std.proofs.Common.{rules, sym, ◌∙◌}
 use Rattle.line.specs.Changes.{reset_called}
 use Rattle.answer.specs.declared.Outcome.TheVariants.{Accepted}
+use Rattle.answer.proofs.Verdicts.{when_err, when_ok}
 use Rattle.section.specs.Instruments.{section_of}
 use Rattle.section.proofs.Quiet.{acknowledging_tells, sending_tells}
-use Rattle.section.proofs.Works.{entering_done, held, held_with, leaving_done, refused, row_is, told_on}
+use Rattle.section.proofs.Works.{entering_done, leaving_done, row_is, told_on}
 use Rattle.section.proofs.instruments.Instruments.work.Goals as goal
 
 pub returns-in_err-send-in-Send-clause-answer : goal.returns-in_err-send-in-Send-clause-answer
@@ -25,21 +26,20 @@ returns-in-Leave-clause-answer c =
 
 pub returns-in_err-action-in-Reset-clause-answer : goal.returns-in_err-action-in-Reset-clause-answer
 returns-in_err-action-in-Reset-clause-answer c =
-    let v = refused _ _ _ (sym c.call_reset.ensures.answer ∙ c.in_err-action-in-Reset.was) in
+    let v = when_err _ _ _ (sym c.call_reset.ensures.answer ∙ c.in_err-action-in-Reset.was) in
     search (rules, row_is c.in-Reset.line c.args.self.now)
 
 pub returns-in_err-action-in-Reset-clause-section : goal.returns-in_err-action-in-Reset-clause-section
 returns-in_err-action-in-Reset-clause-section c =
-    let v = refused _ _ _ (sym c.call_reset.ensures.answer ∙ c.in_err-action-in-Reset.was) in
+    let v = when_err _ _ _ (sym c.call_reset.ensures.answer ∙ c.in_err-action-in-Reset.was) in
     search (rules, row_is c.in-Reset.line c.args.self.now)
 
 pub returns-in_ok-action-in-Reset-clause-answer : goal.returns-in_ok-action-in-Reset-clause-answer
 returns-in_ok-action-in-Reset-clause-answer c =
-    let v = held _ _ _ (sym c.call_reset.ensures.answer ∙ c.in_ok-action-in-Reset.was) in
-    let told = held_with _ _ _ (sym c.call_reset.ensures.answer ∙ c.in_ok-action-in-Reset.was) in
+    let v = when_ok _ _ _ (sym c.call_reset.ensures.answer ∙ c.in_ok-action-in-Reset.was) in
     search (rules, row_is c.in-Reset.line c.args.self.now, told_on Accepted c.in-Reset.line (reset_called c.in-Reset.station) (section_of c.args.self.now))
 
 pub returns-in_ok-action-in-Reset-clause-section : goal.returns-in_ok-action-in-Reset-clause-section
 returns-in_ok-action-in-Reset-clause-section c =
-    let v = held _ _ _ (sym c.call_reset.ensures.answer ∙ c.in_ok-action-in-Reset.was) in
+    let v = when_ok _ _ _ (sym c.call_reset.ensures.answer ∙ c.in_ok-action-in-Reset.was) in
     search (rules, row_is c.in-Reset.line c.args.self.now)
