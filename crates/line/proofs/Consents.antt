@@ -7,15 +7,10 @@ use Rattle.events.specs.declared.field.Code.{Code}
 use Rattle.events.specs.declared.field.Code.TheVariants as code
 use Rattle.line.specs.Changes.{row_after, with_permission}
 use Rattle.line.specs.Codes.{code_needs, consent_gives, consent_makes, effective_when_sent}
-use Rattle.line.specs.Records.{clear_with_train, closed_with_nothing, off_when_due}
+use Rattle.line.specs.Records.{Kept}
 use Rattle.line.specs.declared.role.Role.{Role}
 use Rattle.line.specs.declared.role.Role.TheVariants.{Despatching, Receiving}
 use Rattle.line.specs.declared.row.Row.{Row}
-
-pub record Kept (r : Row) : Type 0 where
-  pub closed : closed_with_nothing r ≡ true
-  pub clear : clear_with_train r ≡ true
-  pub off : off_when_due r ≡ true
 
 pub consent_keeps :
     (c : Code) (x : Role) (turned : Bool) (seen : Reading) (r : Row) → effective_when_sent c x ≡ false

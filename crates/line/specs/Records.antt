@@ -1,5 +1,5 @@
 -- The record of a line: tests of its parts, and what every line record keeps. Assumes nothing.
-use Rattle.std.specs.Prelude.{ℕ, Bool, false, not, ◌&&◌, ◌||◌, None, ◌==◌}
+use Rattle.std.specs.Prelude.{◌≡◌, ℕ, Bool, true, false, not, ◌&&◌, ◌||◌, None, ◌==◌}
 use Rattle.events.specs.Tests.{is_reversed}
 use Rattle.events.specs.declared.field.Position.TheVariants.{Normal}
 use Rattle.line.specs.declared.row.End.{End}
@@ -107,6 +107,12 @@ abbrev pub off_when_due : Row → Bool
 off_when_due r =
     implies (is_off r.signals.stop)
     (needle_is Clear r.permission && (not r.permission.used && (is_reversed r.signals.stop_control && not r.signals.suspended)))
+
+-- all three
+pub record Kept (r : Row) : Type 0 where
+  pub closed : closed_with_nothing r ≡ true
+  pub clear : clear_with_train r ≡ true
+  pub off : off_when_due r ≡ true
 
 abbrev pub consistent : Row → Bool
 consistent r = closed_with_nothing r && (clear_with_train r && off_when_due r)

@@ -1,19 +1,31 @@
 // A line whose type says what every line record keeps.
 ghost use Rattle.std.specs.Prelude.{◌≡◌, true, false, MatchResult};
-ghost use Rattle.line.specs.Records.{clear_with_train, closed_with_nothing, consistent, off_when_due};
+ghost use Rattle.line.specs.Records.{consistent};
 
 use crate::row::{Needle, Permit, Row, Signal};
 use events::field::Position;
+use std::marker::Model;
 
 mod sent;
 mod worked;
 
+// Clauses see a line as its row.
 #[derive(Clone, Copy)]
 pub struct Line {
     row: Row,
-    ghost closed: { closed_with_nothing row ≡ true },
-    ghost clear: { clear_with_train row ≡ true },
-    ghost off: { off_when_due row ≡ true },
+}
+
+impl Model for Line {
+    ghost use Rattle.line.specs.Records.{Kept};
+    ghost use Rattle.line.specs.declared.row.Row.{Row};
+
+    ghost Value = { Row };
+
+    ghost view = { λ l. l.row };
+
+    ghost invariant = { λ l. Kept l.row };
+
+    ghost inverse = { λ r. record { row = r } };
 }
 
 // Whether a row keeps what every line record keeps.
@@ -42,7 +54,7 @@ pub struct Inconsistent;
 impl TryFrom<Row> for Line {
     type Error = Inconsistent;
 
-    ghost try_from_gives = { λ row r. MatchResult r (λ l. (l.row ≡ row) × (consistent row ≡ true)) (λ _. consistent row ≡ false) };
+    ghost try_from_gives = { λ row r. MatchResult r (λ l. (l ≡ row) × (consistent row ≡ true)) (λ _. consistent row ≡ false) };
 
     fn try_from(row: Row) -> Result<Line, Inconsistent> {
         if is_consistent(row) {
@@ -55,7 +67,7 @@ impl TryFrom<Row> for Line {
 
 // The row to write back.
 impl From<Line> for Row {
-    ghost from_gives = { λ l row. (row ≡ l.row) × (consistent row ≡ true) };
+    ghost from_gives = { λ l row. (row ≡ l) × (consistent row ≡ true) };
 
     fn from(line: Line) -> Row {
         line.row

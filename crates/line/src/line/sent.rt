@@ -15,7 +15,7 @@ use events::field::{Consent, Turn};
 impl Line {
     // A code is sent. Train out, and obstruction removed by the receiving station, free the line at once.
     pub fn send(&mut self, sending: Sending, turn: Turn, reading: Reading) -> Result<(), Refusal>
-        ensures { Judged (send_needs sending.code sending.role turn reading self.old.row) (sending_makes sending.code sending.role) self.old.row self.new.row result }
+        ensures { Judged (send_needs sending.code sending.role turn reading self.old) (sending_makes sending.code sending.role) self.old self.new result }
     {
         need(sending.role_allows(), Refusal::WrongStation)?;
         sending.check(turn == sending.sent_with(), reading, self.row)?;
@@ -33,7 +33,7 @@ impl Line {
         turn: Turn,
         reading: Reading,
     ) -> Result<(), Refusal>
-        ensures { Judged (acknowledge_needs sending.code sending.role consent turn reading self.old.row) (acknowledging_makes sending.code sending.role consent) self.old.row self.new.row result }
+        ensures { Judged (acknowledge_needs sending.code sending.role consent turn reading self.old) (acknowledging_makes sending.code sending.role consent) self.old self.new result }
     {
         let straight = turn == Turn::Straight;
         if consent == Consent::Withheld {
@@ -48,7 +48,7 @@ impl Line {
     // Consent to a code that has not taken effect yet: everything is looked at again.
     fn consent(&mut self, sending: Sending, turn: Turn, reading: Reading) -> Result<(), Refusal>
         requires { effective_when_sent sending.code sending.role ≡ false }
-        ensures { Judged (code_needs sending.code sending.role (turn_is turn (acknowledged_with sending.code self.old.row.permission)) reading self.old.row) (consent_makes sending.code sending.role) self.old.row self.new.row result }
+        ensures { Judged (code_needs sending.code sending.role (turn_is turn (acknowledged_with sending.code self.old.permission)) reading self.old) (consent_makes sending.code sending.role) self.old self.new result }
     {
         let wanted = sending.acknowledged_with(self.row.permission);
         sending.check(turn == wanted, reading, self.row)?;

@@ -23,7 +23,7 @@ fn call_kept(station: Station, kept: Option<Station>) -> Option<Station>
 impl Line {
     // Moves the stop control, and the stop signal with it.
     pub fn move_stop_control(&mut self, position: Position, reading: Reading) -> Result<(), Refusal>
-        ensures { Judged (stop_control_needs position reading self.old.row) (stop_control_makes position) self.old.row self.new.row result }
+        ensures { Judged (stop_control_needs position reading self.old) (stop_control_makes position) self.old self.new result }
     {
         let Row {
             permission,
@@ -49,7 +49,7 @@ impl Line {
 
     // Moves the home control, and the home signal with it.
     pub fn move_home_control(&mut self, position: Position) -> Result<(), Refusal>
-        ensures { Judged (home_control_needs position self.old.row) (home_moved position) self.old.row self.new.row result }
+        ensures { Judged (home_control_needs position self.old) (home_moved position) self.old self.new result }
     {
         let Row {
             permission,
@@ -74,7 +74,7 @@ impl Line {
 
     // Suspends the line: both signals go on, and no control moves.
     pub fn suspend(&mut self)
-        ensures { self.new.row ≡ row_after suspended self.old.row }
+        ensures { self.new ≡ row_after suspended self.old }
     {
         self.row.signals.stop = Signal::On;
         self.row.signals.home = Signal::On;
@@ -83,8 +83,8 @@ impl Line {
 
     // A train enters: under its line clear where the stop signal is off; at on, the line is suspended.
     pub fn enter(&mut self) -> Outcome
-        ensures answer { result ≡ entering_answer self.old.row }
-        ensures row { (axles : ℕ) → self.new.row ≡ row_after (entering_makes axles self.old.row) self.old.row }
+        ensures answer { result ≡ entering_answer self.old }
+        ensures row { (axles : ℕ) → self.new ≡ row_after (entering_makes axles self.old) self.old }
     {
         match self.row.signals.stop {
             Signal::Off => {
@@ -101,8 +101,8 @@ impl Line {
 
     // Axles leave: a train that used its line clear has arrived; where none has, the line is suspended.
     pub fn leave(&mut self) -> Outcome
-        ensures answer { result ≡ leaving_answer self.old.row }
-        ensures row { (axles : ℕ) → self.new.row ≡ row_after (leaving_makes axles self.old.row) self.old.row }
+        ensures answer { result ≡ leaving_answer self.old }
+        ensures row { (axles : ℕ) → self.new ≡ row_after (leaving_makes axles self.old) self.old }
     {
         if self.row.permission.used_train() {
             self.row.permission = self.row.permission.now_arrived();
@@ -114,7 +114,7 @@ impl Line {
     }
 
     pub fn start_trolley(&mut self) -> Result<(), Refusal>
-        ensures { Judged (trolley_start_needs self.old.row) trolley_started self.old.row self.new.row result }
+        ensures { Judged (trolley_start_needs self.old) trolley_started self.old self.new result }
     {
         need(!self.row.signals.suspended, Refusal::LineSuspended)?;
         need(
@@ -126,7 +126,7 @@ impl Line {
     }
 
     pub fn end_trolley(&mut self, place: Place) -> Result<(), Refusal>
-        ensures { Judged (trolley_end_needs self.old.row) (trolley_ended place) self.old.row self.new.row result }
+        ensures { Judged (trolley_end_needs self.old) (trolley_ended place) self.old self.new result }
     {
         need(
             self.row.permission.running_trolley(),
@@ -142,8 +142,8 @@ impl Line {
         station: Station,
         reading: Reading,
     ) -> Result<Option<Action>, Refusal>
-        ensures answer { result ≡ given_that (checked (reset_needs station reading self.old.row)) (action_of (reset_called station) self.old.row) }
-        ensures row { self.new.row ≡ unless_refused (checked (reset_needs station reading self.old.row)) (row_after (reset_called station) self.old.row) self.old.row }
+        ensures answer { result ≡ given_that (checked (reset_needs station reading self.old)) (action_of (reset_called station) self.old) }
+        ensures row { self.new ≡ unless_refused (checked (reset_needs station reading self.old)) (row_after (reset_called station) self.old) self.old }
     {
         let kept = self.row.calls.reset;
         let needed = reading == Reading::Failed && kept != Some(station);
@@ -154,7 +154,7 @@ impl Line {
 
     // A station calls for working to be resumed. The other station's call completes it: the line is closed, with nothing permitted.
     pub fn call_resume(&mut self, station: Station, reading: Reading) -> Result<(), Refusal>
-        ensures { Judged (resume_needs station reading self.old.row) (resume_called station) self.old.row self.new.row result }
+        ensures { Judged (resume_needs station reading self.old) (resume_called station) self.old self.new result }
     {
         let kept = self.row.calls.resume;
         let signals = self.row.signals;
@@ -172,7 +172,7 @@ impl Line {
 
     // Puts the stop signal on where the detector does not read clear.
     pub fn settle(&mut self, reading: Reading)
-        ensures { self.new.row ≡ settled reading self.old.row }
+        ensures { self.new ≡ settled reading self.old }
     {
         if reading != Reading::Clear {
             self.row.signals.stop = Signal::On;
