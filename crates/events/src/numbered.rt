@@ -1,10 +1,9 @@
 // A value that a sheet writes as one number: what each number stands for.
 ghost use Rattle.std.specs.Prelude.{◌≡◌, ℕ, Some, Result};
-ghost use Rattle.events.specs.Fields.{Field, codes, consents, directions, kinds, places, positions, stations, turns, every_kind, kind_number};
+ghost use Rattle.events.specs.Fields.{Field, codes, consents, directions, kinds, places, positions, stations, turns, every_code, code_number, every_consent, consent_number, every_direction, direction_number, every_kind, kind_number, every_place, place_number, every_position, position_number, every_station, station_number, every_turn, turn_number};
 ghost use Rattle.events.specs.Numbered.{read};
 ghost use Rattle.events.specs.declared.numbered.NoSuchValue.{NoSuchValue};
-ghost use Rattle.std.proofs.Common.{rules};
-ghost use Rattle.events.specs.Listed.{listed_back};
+ghost use Rattle.events.specs.Listed.{listed_back, code_back, consent_back, direction_back, kind_back, place_back, position_back, station_back, turn_back};
 
 use crate::field::{Code, Consent, Direction, Kind, Place, Position, Station, Turn};
 
@@ -45,9 +44,9 @@ impl Numbered for Station {
 
     ghost reads = { λ n r e. e };
 
-    ghost reads_back = { Prim.search rules };
+    ghost reads_back = { station_back };
 
-    ghost one_number = { Prim.search rules };
+    ghost one_number = { listed_back station_number every_station };
 }
 
 impl TryFrom<u16> for Direction {
@@ -69,9 +68,9 @@ impl Numbered for Direction {
 
     ghost reads = { λ n r e. e };
 
-    ghost reads_back = { Prim.search rules };
+    ghost reads_back = { direction_back };
 
-    ghost one_number = { Prim.search rules };
+    ghost one_number = { listed_back direction_number every_direction };
 }
 
 impl TryFrom<u16> for Code {
@@ -99,9 +98,9 @@ impl Numbered for Code {
 
     ghost reads = { λ n r e. e };
 
-    ghost reads_back = { Prim.search rules };
+    ghost reads_back = { code_back };
 
-    ghost one_number = { Prim.search rules };
+    ghost one_number = { listed_back code_number every_code };
 }
 
 impl TryFrom<u16> for Turn {
@@ -124,9 +123,9 @@ impl Numbered for Turn {
 
     ghost reads = { λ n r e. e };
 
-    ghost reads_back = { Prim.search rules };
+    ghost reads_back = { turn_back };
 
-    ghost one_number = { Prim.search rules };
+    ghost one_number = { listed_back turn_number every_turn };
 }
 
 impl TryFrom<u16> for Consent {
@@ -148,9 +147,9 @@ impl Numbered for Consent {
 
     ghost reads = { λ n r e. e };
 
-    ghost reads_back = { Prim.search rules };
+    ghost reads_back = { consent_back };
 
-    ghost one_number = { Prim.search rules };
+    ghost one_number = { listed_back consent_number every_consent };
 }
 
 impl TryFrom<u16> for Position {
@@ -172,9 +171,9 @@ impl Numbered for Position {
 
     ghost reads = { λ n r e. e };
 
-    ghost reads_back = { Prim.search rules };
+    ghost reads_back = { position_back };
 
-    ghost one_number = { Prim.search rules };
+    ghost one_number = { listed_back position_number every_position };
 }
 
 impl TryFrom<u16> for Place {
@@ -196,9 +195,9 @@ impl Numbered for Place {
 
     ghost reads = { λ n r e. e };
 
-    ghost reads_back = { Prim.search rules };
+    ghost reads_back = { place_back };
 
-    ghost one_number = { Prim.search rules };
+    ghost one_number = { listed_back place_number every_place };
 }
 
 impl TryFrom<u16> for Kind {
@@ -233,7 +232,7 @@ impl Numbered for Kind {
 
     ghost reads = { λ n r e. e };
 
-    ghost reads_back = { Prim.search rules };
+    ghost reads_back = { kind_back };
 
-    ghost one_number = { λ n x. listed_back kind_number every_kind n x };
+    ghost one_number = { listed_back kind_number every_kind };
 }
