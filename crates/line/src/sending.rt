@@ -1,7 +1,7 @@
 // A bell code on its way, and the tables of the codes.
 ghost use Rattle.std.specs.Prelude.{◌≡◌};
 ghost use Rattle.answer.specs.Answers.{checked};
-ghost use Rattle.line.specs.Codes.{acknowledged_with, code_needs, consent_gives, detector_allows, effective_when_sent, end_allows, may_be_withheld, record_allows, role_allows, sent_with, signals_allow};
+ghost use Rattle.line.specs.Codes.{acknowledged_with, code_needs, consent_gives, detector_allows, effective_when_sent, end_allows, may_be_withheld, record_allows, role_allows, send_needs, sent_with, signals_allow};
 ghost use Rattle.line.specs.Records.{both_normal};
 
 use crate::role::Role;
@@ -28,7 +28,7 @@ impl Signals {
 
 impl Sending {
     // Whether the code is this end's to send. Obstruction removed is sent from the end that the blocking says.
-    pub(crate) fn role_allows(self) -> bool
+    fn role_allows(self) -> bool
         ensures { result ≡ role_allows self.code self.role }
     {
         match self.code {
@@ -73,7 +73,7 @@ impl Sending {
     }
 
     // The turn with which the code is sent.
-    pub(crate) fn sent_with(self) -> Turn
+    fn sent_with(self) -> Turn
         ensures { result ≡ sent_with self.code self.role }
     {
         if self.effective_when_sent() {
@@ -154,6 +154,14 @@ impl Sending {
         need(self.signals_allow(row.signals), Refusal::SignalOrControl)?;
         need(self.detector_allows(reading), Refusal::DetectorNotClear)?;
         need(self.end_allows(row.permission), Refusal::NotArrived)
+    }
+
+    // What is needed to send the code: first that it is this end's to send.
+    pub(crate) fn check_sent(self, turn: Turn, reading: Reading, row: Row) -> Result<(), Refusal>
+        ensures { result ≡ checked (send_needs self.code self.role turn reading row) }
+    {
+        need(self.role_allows(), Refusal::WrongStation)?;
+        self.check(turn == self.sent_with(), reading, row)
     }
 
     // What a consent to the code makes of the permission.

@@ -1,4 +1,3 @@
 pub mod PerLines
-pub mod Instruments
 pub mod Sections
 pub mod States

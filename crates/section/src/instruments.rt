@@ -16,21 +16,30 @@ use line::line::{Inconsistent, Line};
 use line::role::Role;
 use line::row::Row;
 use line::sending::Sending;
+use std::marker::Model;
 
-// Made from a section's record after a check, and written back as one.
+// Made from a section's record after a check, and written back as one. Clauses see that record.
 #[derive(Clone, Copy)]
 pub struct Instruments {
     bell: Bell,
     lines: PerLine<Line>,
 }
 
+impl Model for Instruments {
+    ghost use Rattle.section.specs.declared.section.Section.{Section};
+
+    ghost Value = { Section };
+
+    ghost view = { λ i. record { bell = i.bell; lines = i.lines } };
+
+    ghost inverse = { λ s. record { bell = s.bell; lines = s.lines } };
+}
+
 // A section's instruments, where both its rows keep what every line record keeps.
 impl TryFrom<Section> for Instruments {
     type Error = Inconsistent;
 
-    ghost use Rattle.section.specs.Instruments.{section_of};
-
-    ghost try_from_gives = { λ s r. MatchResult r (λ i. (section_of i ≡ s) × ((consistent s.lines.up && consistent s.lines.down) ≡ true)) (λ _. (consistent s.lines.up && consistent s.lines.down) ≡ false) };
+    ghost try_from_gives = { λ s r. MatchResult r (λ i. (i ≡ s) × ((consistent s.lines.up && consistent s.lines.down) ≡ true)) (λ _. (consistent s.lines.up && consistent s.lines.down) ≡ false) };
 
     fn try_from(section: Section) -> Result<Instruments, Inconsistent> {
         Ok(Instruments {
@@ -45,9 +54,7 @@ impl TryFrom<Section> for Instruments {
 
 // The record to write back.
 impl From<Instruments> for Section {
-    ghost use Rattle.section.specs.Instruments.{section_of};
-
-    ghost from_gives = { λ i s. (s ≡ section_of i) × (consistent s.lines.up ≡ true) × (consistent s.lines.down ≡ true) };
+    ghost from_gives = { λ i s. (s ≡ i) × (consistent s.lines.up ≡ true) × (consistent s.lines.down ≡ true) };
 
     fn from(instruments: Instruments) -> Section {
         Section {
@@ -88,12 +95,10 @@ impl Worked {
 }
 
 impl Instruments {
-    ghost use Rattle.section.specs.Instruments.{section_of};
-
     // Axles leave a line. Where none were expected, the other line is suspended too.
     fn leave(&mut self, line: Direction) -> Outcome
-        ensures outcome { result ≡ leaving_answer (row_of line (section_of self.old)) }
-        ensures section { (axles : ℕ) → section_of self.new ≡ lines_after (section_of self.old) (Event.Leave line axles) }
+        ensures outcome { result ≡ leaving_answer (row_of line self.old) }
+        ensures section { (axles : ℕ) → self.new ≡ lines_after self.old (Event.Leave line axles) }
     {
         let outcome = self.lines.on_mut(line).leave();
         if outcome == Outcome::LeftUnexpected {
@@ -104,8 +109,8 @@ impl Instruments {
 
     // What the event does on the lines, and to what their detectors are told. The bell has taken its part already.
     fn work(&mut self, event: Event, readings: Readings) -> Result<Worked, Refusal>
-        ensures answer { result ≡ given_that (checked (line_needs (section_of self.old) readings event)) (done_by (section_of self.old) event) }
-        ensures section { section_of self.new ≡ unless_refused (checked (line_needs (section_of self.old) readings event)) (lines_after (section_of self.old) event) (section_of self.old) }
+        ensures answer { result ≡ given_that (checked (line_needs self.old readings event)) (done_by self.old event) }
+        ensures section { self.new ≡ unless_refused (checked (line_needs self.old readings event)) (lines_after self.old event) self.old }
     {
         match event {
             Event::Call { .. } | Event::Answer { .. } | Event::Error { .. } => {
@@ -181,8 +186,8 @@ impl Instruments {
 
     // Answers an event by what the detectors read. A refused one leaves bell and lines as they were.
     pub fn answer(&mut self, event: Event, readings: Readings) -> Result<Worked, Refusal>
-        ensures answer { result ≡ worked_by (section_of self.old) readings event }
-        ensures section { section_of self.new ≡ unless_refused (checked (needs (section_of self.old) readings event)) (section_after (section_of self.old) event) (section_of self.old) }
+        ensures answer { result ≡ worked_by self.old readings event }
+        ensures section { self.new ≡ unless_refused (checked (needs self.old readings event)) (section_after self.old event) self.old }
     {
         let mut bell = self.bell;
         bell.hear(event)?;
@@ -193,7 +198,7 @@ impl Instruments {
 
     // Puts the stop signal on of each line whose detector does not read clear.
     pub fn settle(&mut self, readings: Readings)
-        ensures { section_of self.new ≡ section_settled readings (section_of self.old) }
+        ensures { self.new ≡ section_settled readings self.old }
     {
         self.lines.up.settle(readings.up);
         self.lines.down.settle(readings.down);

@@ -17,8 +17,7 @@ impl Line {
     pub fn send(&mut self, sending: Sending, turn: Turn, reading: Reading) -> Result<(), Refusal>
         ensures { Judged (send_needs sending.code sending.role turn reading self.old) (sending_makes sending.code sending.role) self.old self.new result }
     {
-        need(sending.role_allows(), Refusal::WrongStation)?;
-        sending.check(turn == sending.sent_with(), reading, self.row)?;
+        sending.check_sent(turn, reading, self.row)?;
         if sending.effective_when_sent() {
             self.row.permission = Permission::given(Needle::Closed, Permit::Nothing);
         }
