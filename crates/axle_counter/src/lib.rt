@@ -12,6 +12,8 @@ pub mod detects;
 // the limit, which lies below.
 const ROUND: u16 = 1024;
 
+// The limit is law for every detector, and a law sees ghost fields but no model's invariant: so the fields are seen.
+// It goes on counting once it has failed, so the flag stands beside the totals.
 #[derive(Drop)]
 pub struct AxleCounter {
     in_total: u16,

@@ -52,6 +52,7 @@ impl<D: Detector> Bank for Single<D> {
         if at > 0 {
             return;
         }
+        // What is told is a value that contracts name: a closure in its place could not be handed out by a line.
         match action {
             Action::CountIn(axles) => self.detector.count_in(axles),
             Action::CountOut(axles) => self.detector.count_out(axles),

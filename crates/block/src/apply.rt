@@ -45,7 +45,7 @@ impl<D: Detector> Bench<D> {
         ensures answer { result ≡ answer_at self.old event }
         ensures bench { self.new ≡ bench_after self.old event }
     {
-        let at = event.section as usize;
+        let at = usize::from(event.section);
         need(is_within_values(event.event), Refusal::OutsideValues)?;
         need(self.has(at), Refusal::NoSection)?;
         self.work(at, event.event)
@@ -55,7 +55,7 @@ impl<D: Detector> Bench<D> {
     pub fn face(&self, section: u16) -> Option<Face>
         ensures { result ≡ face_at section self.now }
     {
-        let at = section as usize;
+        let at = usize::from(section);
         if !self.has(at) {
             return None;
         }

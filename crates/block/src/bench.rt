@@ -57,7 +57,7 @@ impl<D: Detector> Bench<D> {
     {
         let count = section_count(sections)?;
         Ok(Bench {
-            sections: vec![in heap; Section::fresh(); count as usize]?,
+            sections: vec![in heap; Section::fresh(); usize::from(count)]?,
             bank: Bank::fresh(),
         })
     }

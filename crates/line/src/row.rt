@@ -37,7 +37,7 @@ pub enum Signal {
     Off,
 }
 
-// What is permitted, and what has become of it.
+// What is permitted, and what has become of it. The rules give every permit these parts, so `used` is no part of `Permit`.
 #[derive(Clone, Copy, Debug, PartialEq, Eq)]
 pub struct Permission {
     pub needle: Needle,

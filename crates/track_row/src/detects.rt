@@ -59,7 +59,7 @@ impl Detector for TrackRow {
         ensures meaning { row_meaning self.new ≡ rolled track (row_meaning self.old) }
         ensures tracks { self.new.tracks ≡ tracks_rolled track self.old.tracks }
     {
-        let from = track as usize;
+        let from = usize::from(track);
         if from + 1 < TRACKS {
             let moved = self.clear_off(from);
             self.put_on(from + 1, moved);

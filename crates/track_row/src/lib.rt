@@ -12,6 +12,7 @@ use std::mem;
 
 const TRACKS: usize = 8;
 
+// As in an axle counter, the law of the limit needs ghost fields and no model, and counting goes on after a failure.
 #[derive(Drop)]
 pub struct TrackRow {
     tracks: [u16; TRACKS],

@@ -53,24 +53,19 @@ fn through<D: Detector>(detector: &mut D) -> [Shown; 4] {
     [full, rolled, empty, detector.read()]
 }
 
-fn shows_each(shown: [Shown; 4]) -> bool {
-    matches!(
-        shown,
-        [
-            Shown::Occupied,
-            Shown::Occupied,
-            Shown::Clear,
-            Shown::Failed
-        ]
-    )
-}
+const SHOWN: [Shown; 4] = [
+    Shown::Occupied,
+    Shown::Occupied,
+    Shown::Clear,
+    Shown::Failed,
+];
 
 #[test]
 fn every_detector_shows_the_same(rt: HostRuntime) {
     let mut counter = AxleCounter::fresh();
     let mut row = TrackRow::fresh();
-    assert!(rt; shows_each(through(&mut counter)));
-    assert!(rt; shows_each(through(&mut row)));
+    assert_eq!(rt; through(&mut counter), SHOWN);
+    assert_eq!(rt; through(&mut row), SHOWN);
     counter.reset();
-    assert!(rt; matches!(counter.read(), Shown::Clear));
+    assert_eq!(rt; counter.read(), Shown::Clear);
 }

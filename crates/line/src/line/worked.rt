@@ -1,7 +1,7 @@
 // What controls, trains, trolleys and calls do to a line.
 ghost use Rattle.std.specs.Prelude.{◌≡◌, ℕ};
 ghost use Rattle.answer.specs.Answers.{checked, given_that, unless_refused};
-ghost use Rattle.line.specs.Changes.{Judged, action_of, call_kept, home_moved, reset_called, resume_called, row_after, settled, suspended, trolley_ended, trolley_started};
+ghost use Rattle.line.specs.Changes.{Judged, action_of, home_moved, reset_called, resume_called, row_after, settled, suspended, trolley_ended, trolley_started};
 ghost use Rattle.line.specs.Lines.{entering_answer, entering_makes, home_control_needs, leaving_answer, leaving_makes, reset_needs, resume_needs, stop_control_makes, stop_control_needs, trolley_end_needs, trolley_start_needs};
 
 use super::Line;
@@ -9,16 +9,6 @@ use crate::row::{Needle, Permission, Permit, Row, Signal};
 use answer::{Outcome, Refusal, need};
 use detector::{Action, Reading};
 use events::field::{Place, Position, Station};
-
-// Whose call is kept after one more: the first is, and the second, which completes, leaves nobody's.
-fn call_kept(station: Station, kept: Option<Station>) -> Option<Station>
-    ensures { result ≡ call_kept station kept }
-{
-    match kept {
-        Some(_) => None,
-        None => Some(station),
-    }
-}
 
 impl Line {
     // Moves the stop control, and the stop signal with it.
@@ -148,7 +138,8 @@ impl Line {
         let kept = self.row.calls.reset;
         let needed = reading == Reading::Failed && kept != Some(station);
         need(needed, Refusal::CallNotNeeded)?;
-        self.row.calls.reset = call_kept(station, kept);
+        // The second call, which completes, leaves nobody's.
+        self.row.calls.reset = kept.xor(Some(station));
         Ok(kept.map(|_| Action::Reset))
     }
 
@@ -166,7 +157,7 @@ impl Line {
             self.row.permission = Permission::given(Needle::Closed, Permit::Nothing);
             self.row.signals.suspended = false;
         }
-        self.row.calls.resume = call_kept(station, kept);
+        self.row.calls.resume = kept.xor(Some(station));
         Ok(())
     }
 
