@@ -1,5 +1,5 @@
 -- The numbers of answers, and how a list of needs is judged. Assumes nothing.
-use Rattle.std.specs.Prelude.{ℕ, Bool, cond, List, [], ◌∷◌, Ok, Err, Result}
+use Rattle.std.specs.Prelude.{ℕ, Bool, if◌then◌else◌, List, [], ◌∷◌, Ok, Err, Result}
 use Rattle.answer.specs.declared.Outcome.{Outcome}
 use Rattle.answer.specs.declared.Outcome.TheVariants.{Accepted, PassedAtOn, LeftUnexpected}
 use Rattle.answer.specs.declared.Refusal.{Refusal}
@@ -41,7 +41,7 @@ Verdict = Result (Unit {0}) Refusal
 
 abbrev pub checked : Needs → Verdict
 checked [] = Ok tt
-checked (n ∷ ns) = cond n.0 (checked ns) (Err n.1)
+checked (n ∷ ns) = if n.0 then checked ns else Err n.1
 
 -- what is where nothing is refused, and what stays where something is
 abbrev pub unless_refused : {A : Type 0} → Verdict → A → A → A

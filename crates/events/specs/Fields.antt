@@ -1,5 +1,5 @@
 -- The numbers that stand for the values of a field. Assumes nothing.
-use Rattle.std.specs.Prelude.{ℕ, cond, ◌&&◌, List, [], ◌∷◌, Some, None, Option, ◌==◌, nat_le}
+use Rattle.std.specs.Prelude.{ℕ, if◌then◌else◌, ◌&&◌, List, [], ◌∷◌, Some, None, Option, ◌==◌, nat_le}
 use Rattle.events.specs.declared.field.Code.{Code}
 use Rattle.events.specs.declared.field.Code.TheVariants as code
 use Rattle.events.specs.declared.field.Consent.{Consent}
@@ -25,7 +25,7 @@ pub record Field (T : Type 0) : Type 0 where
 -- the first of xs that has the number n
 abbrev pub first_numbered : {T : Type 0} → (T → ℕ) → List T → ℕ → Option T
 first_numbered number [] n = None
-first_numbered number (x ∷ xs) n = cond (n == number x) (Some x) (first_numbered number xs n)
+first_numbered number (x ∷ xs) n = if n == number x then Some x else first_numbered number xs n
 
 -- a field whose values are listed
 abbrev pub listed : {T : Type 0} → (T → ℕ) → List T → Field T
@@ -33,7 +33,7 @@ listed number xs = record { number = number; value = first_numbered number xs }
 
 -- a field whose values are the numbers from least to most
 abbrev pub from_to : ℕ → ℕ → Field ℕ
-from_to least most = record { number = λ n. n; value = λ n. cond (nat_le least n && nat_le n most) (Some n) None }
+from_to least most = record { number = λ n. n; value = λ n. if nat_le least n && nat_le n most then Some n else None }
 
 abbrev pub station_number : Station → ℕ
 station_number station.Zero = 0

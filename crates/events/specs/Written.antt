@@ -1,5 +1,5 @@
 -- How a section count and a list of events are written as bytes. Assumes nothing.
-use Rattle.std.specs.Prelude.{◌≡◌, ℕ, ◌+◌, ◌/◌, ◌%◌, ◌≤◌, Bool, true, cond, ◌||◌, List, [], ◌∷◌, ◌++◌, length, is_some, ◌==◌, nat_lt}
+use Rattle.std.specs.Prelude.{◌≡◌, ℕ, ◌+◌, ◌/◌, ◌%◌, ◌≤◌, Bool, true, if◌then◌else◌, ◌||◌, List, [], ◌∷◌, ◌++◌, length, is_some, ◌==◌, nat_lt}
 use Rattle.std.specs.List.{flat_map}
 use Rattle.events.specs.declared.event.Event.{Event}
 use Rattle.events.specs.declared.event.Event.TheVariants as event
@@ -12,9 +12,9 @@ use Rattle.events.specs.Fields.{Field, axle_counts, tracks, station_number, dire
 -- groups of seven bits, the high group first; each byte but the last has 128 added
 abbrev pub written_number : ℕ → List ℕ
 written_number n =
-    cond (nat_lt n 128) (n ∷ [])
-    (cond (nat_lt n 16384) ((128 + n / 128) ∷ (n % 128) ∷ [])
-    ((128 + n / 16384) ∷ (128 + n / 128 % 128) ∷ (n % 128) ∷ []))
+    if nat_lt n 128 then n ∷ []
+    else if nat_lt n 16384 then (128 + n / 128) ∷ (n % 128) ∷ []
+    else (128 + n / 16384) ∷ (128 + n / 128 % 128) ∷ (n % 128) ∷ []
 
 abbrev pub kind_of : Event → Kind
 kind_of (event.Call a) = kind.Call
@@ -90,8 +90,9 @@ holds f n = is_some (f.value n)
 -- axles and track, where the event has one, are within their values
 abbrev pub within_values : Event → Bool
 within_values e =
-    cond (tells_axles e) (holds axle_counts (last_number (fields_in e)))
-    (cond (tells_track e) (holds tracks (last_number (fields_in e))) true)
+    if tells_axles e then holds axle_counts (last_number (fields_in e))
+    else if tells_track e then holds tracks (last_number (fields_in e))
+    else true
 
 -- an event that a sheet can hold
 pub record Proper (e : SectionEvent) : Type 0 where

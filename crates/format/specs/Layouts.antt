@@ -1,5 +1,5 @@
 -- The fields of each kind of event, in their order, and what reading them answers. Assumes nothing.
-use Rattle.std.specs.Prelude.{ℕ, cond, List, length, Some, None, Ok, Err, Option, nat_lt}
+use Rattle.std.specs.Prelude.{ℕ, if◌then◌else◌, List, length, Some, None, Ok, Err, Option, nat_lt}
 use Rattle.events.specs.declared.event.Event.{Event}
 use Rattle.events.specs.declared.event.Event.TheVariants.{Call, Answer as Answered, Send, Acknowledge, Error, StopControl, HomeControl, Enters, Leave, TrolleyStarts, TrolleyEnds, Fails, Reset, Resume, Roll}
 use Rattle.events.specs.declared.event.LocatedEvent.{LocatedEvent}
@@ -57,6 +57,5 @@ event_at s p =
 -- the next event with its place; none at the sheet's end
 abbrev pub next_at : List ℕ → ℕ → Answer (Option LocatedEvent)
 next_at s p =
-    cond (nat_lt p (length s))
-    (and_then (event_at s p) (λ e q. Ok (Some (record { offset = p; told = e }), q)))
-    (Ok (None, p))
+    if nat_lt p (length s) then and_then (event_at s p) (λ e q. Ok (Some (record { offset = p; told = e }), q))
+    else Ok (None, p)

@@ -1,5 +1,5 @@
 -- What reading a number answers, byte by byte. Assumes nothing.
-use Rattle.std.specs.Prelude.{ℕ, ◌+◌, ◌-◌, ◌*◌, ◌<◌, cond, List, [], ◌∷◌, length, drop, Ok, Err, Result, ◌==◌, nat_le, nat_lt, slice_index}
+use Rattle.std.specs.Prelude.{ℕ, ◌+◌, ◌-◌, ◌*◌, ◌<◌, if◌then◌else◌, List, [], ◌∷◌, length, drop, Ok, Err, Result, ◌==◌, nat_le, nat_lt, slice_index}
 use Rattle.format.specs.declared.fault.ReadFault.{ReadFault}
 use Rattle.format.specs.declared.fault.Reason.{Reason}
 use Rattle.format.specs.declared.fault.Reason.TheVariants.{Ends, Form}
@@ -15,22 +15,21 @@ Answer T = Result (T × ℕ) ReadFault
 abbrev pub third_byte : ℕ → ℕ → List ℕ → Answer ℕ
 third_byte p h [] = Err (fault Ends p)
 third_byte p h (c ∷ cs) =
-    cond (nat_lt c 128)
-    (cond (nat_le (h * 128 + c) 65535) (Ok (h * 128 + c, p + 3)) (Err (fault Form (p + 2))))
-    (Err (fault Form p))
+    if nat_lt c 128 then (if nat_le (h * 128 + c) 65535 then Ok (h * 128 + c, p + 3) else Err (fault Form (p + 2)))
+    else Err (fault Form p)
 
 abbrev pub second_byte : ℕ → ℕ → List ℕ → Answer ℕ
 second_byte p h [] = Err (fault Ends p)
-second_byte p h (b ∷ bs) = cond (nat_lt b 128) (Ok (h * 128 + b, p + 2)) (third_byte p (h * 128 + (b - 128)) bs)
+second_byte p h (b ∷ bs) = if nat_lt b 128 then Ok (h * 128 + b, p + 2) else third_byte p (h * 128 + (b - 128)) bs
 
 abbrev pub first_byte : ℕ → List ℕ → Answer ℕ
 first_byte p [] = Err (fault Ends p)
 first_byte p (a ∷ bs) =
-    cond (nat_lt a 128) (Ok (a, p + 1)) (cond (a == 128) (Err (fault Form p)) (second_byte p (a - 128) bs))
+    if nat_lt a 128 then Ok (a, p + 1) else if a == 128 then Err (fault Form p) else second_byte p (a - 128) bs
 
 -- the number that begins at p; one that is missing altogether is told at the sheet's end
 abbrev pub number_at : List ℕ → ℕ → Answer ℕ
-number_at s p = cond (nat_lt p (length s)) (first_byte p (drop p s)) (Err (fault Ends (length s)))
+number_at s p = if nat_lt p (length s) then first_byte p (drop p s) else Err (fault Ends (length s))
 
 -- each element of s is a byte
 abbrev pub Bytes : List ℕ → Type 0

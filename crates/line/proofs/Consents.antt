@@ -1,5 +1,5 @@
 -- A consent that is not refused leaves a record that keeps what every line record keeps. Assumes nothing.
-use Rattle.std.proofs.Common.{◌≡◌, Bool, true, false, Ok, refl, arith}
+use Rattle.std.proofs.Common.{◌≡◌, Bool, false, Ok, refl, arith}
 use Rattle.std.proofs.lemmas.Bool.Decides.{nat_tests}
 use Rattle.answer.specs.Answers.{checked}
 use Rattle.detector.specs.declared.Reading.{Reading}

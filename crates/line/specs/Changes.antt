@@ -1,5 +1,5 @@
 -- What can happen to a line, what its record becomes by it, and what its detector is told. Assumes nothing.
-use Rattle.std.specs.Prelude.{◌≡◌, ℕ, Bool, true, false, cond, not, ◌&&◌, is_some, Some, None, Option}
+use Rattle.std.specs.Prelude.{◌≡◌, ℕ, Bool, true, false, if◌then◌else◌, not, ◌&&◌, is_some, Some, None, Option}
 use Rattle.answer.specs.Answers.{Needs, Verdict, checked, unless_refused}
 use Rattle.detector.specs.Meaning.{reading_is}
 use Rattle.detector.specs.declared.Action.{Action}
@@ -77,7 +77,7 @@ now_ended e p = record { needle = p.needle; permit = p.permit; used = p.used; en
 
 -- a train's needle goes to train on line; a trolley's is there already
 abbrev pub now_on_line : Permission → Permission
-now_on_line p = record { needle = cond (permit_is Train p) TrainOnLine p.needle; permit = p.permit; used = p.used; end = p.end }
+now_on_line p = record { needle = if permit_is Train p then TrainOnLine else p.needle; permit = p.permit; used = p.used; end = p.end }
 
 -- Signals and controls.
 
@@ -94,7 +94,7 @@ home_to p g = record { stop = g.stop; home = signal_by p; stop_control = g.stop_
 
 -- the stop signal goes on, unless it may stay
 abbrev pub stop_on_unless : Bool → Signals → Signals
-stop_on_unless stays g = record { stop = cond stays g.stop On; home = g.home; stop_control = g.stop_control; home_control = g.home_control; suspended = g.suspended }
+stop_on_unless stays g = record { stop = if stays then g.stop else On; home = g.home; stop_control = g.stop_control; home_control = g.home_control; suspended = g.suspended }
 
 abbrev pub home_on : Signals → Signals
 home_on g = record { stop = g.stop; home = On; stop_control = g.stop_control; home_control = g.home_control; suspended = g.suspended }
@@ -112,7 +112,7 @@ abbrev pub half_called : Option Station → Bool
 half_called o = is_some o
 
 abbrev pub call_kept : Station → Option Station → Option Station
-call_kept a o = cond (half_called o) None (Some a)
+call_kept a o = if half_called o then None else Some a
 
 abbrev pub ended_at : Place → End
 ended_at place.Arrived = Arrived
@@ -144,7 +144,7 @@ row_after (reset_called a) r = with_calls (record { reset = call_kept a r.calls.
 row_after (resume_called a) r =
     let done = half_called r.calls.resume in
     with_calls (record { reset = r.calls.reset; resume = call_kept a r.calls.resume })
-    (with_signals (resumed_if done r.signals) (with_permission (cond done (given Closed Nothing) r.permission) r))
+    (with_signals (resumed_if done r.signals) (with_permission (if done then given Closed Nothing else r.permission) r))
 
 -- what the line's detector is told
 abbrev pub action_of : Change → Row → Option Action
@@ -169,7 +169,7 @@ action_of trolley_started r = None
 action_of (trolley_ended e) r = None
 action_of detector_failed r = Some action.Fail
 action_of (rolled t) r = Some (action.Roll t)
-action_of (reset_called a) r = cond (half_called r.calls.reset) (Some action.Reset) None
+action_of (reset_called a) r = if half_called r.calls.reset then Some action.Reset else None
 action_of (resume_called a) r = None
 
 -- a detector that does not read clear puts the stop signal on

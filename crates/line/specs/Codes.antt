@@ -1,5 +1,5 @@
 -- The bell codes: who may send each, with which turn, what it needs of the line, and what it does. Assumes nothing.
-use Rattle.std.specs.Prelude.{ℕ, Bool, true, cond, not, ◌&&◌, ◌||◌, [], ◌∷◌, ◌==◌}
+use Rattle.std.specs.Prelude.{ℕ, Bool, true, if◌then◌else◌, not, ◌&&◌, ◌||◌, [], ◌∷◌, ◌==◌}
 use Rattle.answer.specs.Answers.{Needs}
 use Rattle.answer.specs.declared.Refusal.TheVariants as refusal
 use Rattle.detector.specs.Meaning.{reading_is}
@@ -34,7 +34,7 @@ despatcher Up = Zero
 despatcher Down = One
 
 abbrev pub role_of : Direction → Station → Role
-role_of l a = cond (station_is a (despatcher l)) Despatching Receiving
+role_of l a = if station_is a (despatcher l) then Despatching else Receiving
 
 abbrev pub role_number : Role → ℕ
 role_number Despatching = 0
@@ -71,7 +71,7 @@ sent_with code.IsLineClear x = Straight
 sent_with code.TrainEntering x = Straight
 sent_with code.TrainOut x = Right
 sent_with code.CancelLast x = Straight
-sent_with code.ObstructionRemoved x = cond (role_is x Receiving) Right Straight
+sent_with code.ObstructionRemoved x = if role_is x Receiving then Right else Straight
 sent_with code.Trolley x = Straight
 sent_with code.BlockForward x = Straight
 sent_with code.BlockBack x = Straight
@@ -79,9 +79,9 @@ sent_with code.BlockBack x = Straight
 -- the turn with which a consent to the code is made
 abbrev pub acknowledged_with : Code → Permission → Turn
 acknowledged_with code.IsLineClear p = Right
-acknowledged_with code.TrainEntering p = cond (permit_is Train p) Left Straight
+acknowledged_with code.TrainEntering p = if permit_is Train p then Left else Straight
 acknowledged_with code.TrainOut p = Straight
-acknowledged_with code.CancelLast p = cond (permit_is Train p) Left Right
+acknowledged_with code.CancelLast p = if permit_is Train p then Left else Right
 acknowledged_with code.ObstructionRemoved p = Right
 acknowledged_with code.Trolley p = Left
 acknowledged_with code.BlockForward p = Left
@@ -130,7 +130,7 @@ sending_makes code.IsLineClear x = unchanged
 sending_makes code.TrainEntering x = unchanged
 sending_makes code.TrainOut x = train_out
 sending_makes code.CancelLast x = unchanged
-sending_makes code.ObstructionRemoved x = cond (role_is x Receiving) unblocked unchanged
+sending_makes code.ObstructionRemoved x = if role_is x Receiving then unblocked else unchanged
 sending_makes code.Trolley x = unchanged
 sending_makes code.BlockForward x = unchanged
 sending_makes code.BlockBack x = unchanged
@@ -145,16 +145,15 @@ may_be_withheld c = not (code_is c code.TrainEntering || (code_is c code.TrainOu
 abbrev pub acknowledge_needs : Code → Role → Consent → Turn → Reading → Row → Needs
 acknowledge_needs c x consent.Withheld t seen r = (may_be_withheld c && turn_is t Straight, refusal.WrongTurn) ∷ []
 acknowledge_needs c x consent.Given t seen r =
-    cond (effective_when_sent c x)
-    ((turn_is t Straight, refusal.WrongTurn) ∷ [])
-    (code_needs c x (turn_is t (acknowledged_with c r.permission)) seen r)
+    if effective_when_sent c x then (turn_is t Straight, refusal.WrongTurn) ∷ []
+    else code_needs c x (turn_is t (acknowledged_with c r.permission)) seen r
 
 abbrev pub consent_makes : Code → Role → Change
 consent_makes code.IsLineClear x = train_given
 consent_makes code.TrainEntering x = train_entering
 consent_makes code.TrainOut x = unchanged
 consent_makes code.CancelLast x = cancelled
-consent_makes code.ObstructionRemoved x = cond (role_is x Receiving) unchanged unblocked
+consent_makes code.ObstructionRemoved x = if role_is x Receiving then unchanged else unblocked
 consent_makes code.Trolley x = trolley_given
 consent_makes code.BlockForward x = blocked_forward
 consent_makes code.BlockBack x = blocked_back

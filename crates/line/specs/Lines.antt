@@ -1,5 +1,5 @@
 -- What the controls, trains, trolleys and calls need of a line, and what they do. Assumes nothing.
-use Rattle.std.specs.Prelude.{ℕ, Bool, false, cond, not, ◌&&◌, [], ◌∷◌, Some, None, Option}
+use Rattle.std.specs.Prelude.{ℕ, Bool, false, if◌then◌else◌, not, ◌&&◌, [], ◌∷◌, Some, None, Option}
 use Rattle.answer.specs.Answers.{Needs}
 use Rattle.answer.specs.declared.Outcome.{Outcome}
 use Rattle.answer.specs.declared.Outcome.TheVariants.{Accepted, PassedAtOn, LeftUnexpected}
@@ -42,17 +42,17 @@ home_control_needs Reversed r =
 
 -- a train that enters uses the line clear where the stop signal is off, and else has passed it at on
 abbrev pub entering_answer : Row → Outcome
-entering_answer r = cond (is_off r.signals.stop) Accepted PassedAtOn
+entering_answer r = if is_off r.signals.stop then Accepted else PassedAtOn
 
 abbrev pub entering_makes : ℕ → Row → Change
-entering_makes k r = cond (is_off r.signals.stop) (passed k) (passed_at_on k)
+entering_makes k r = if is_off r.signals.stop then passed k else passed_at_on k
 
 -- axles are expected to leave only where a train has used the line clear
 abbrev pub leaving_answer : Row → Outcome
-leaving_answer r = cond (used_train r.permission) Accepted LeftUnexpected
+leaving_answer r = if used_train r.permission then Accepted else LeftUnexpected
 
 abbrev pub leaving_makes : ℕ → Row → Change
-leaving_makes k r = cond (used_train r.permission) (left k) (left_unexpected k)
+leaving_makes k r = if used_train r.permission then left k else left_unexpected k
 
 -- Trolleys.
 

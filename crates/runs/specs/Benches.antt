@@ -1,5 +1,5 @@
 -- The rules of the bench: any event, at any section number, over what the detectors mean. Assumes nothing.
-use Rattle.std.specs.Prelude.{ℕ, cond, List, ◌∷◌, length, replicate, Some, None, Option, nat_lt, slice_index_or, slice_set}
+use Rattle.std.specs.Prelude.{ℕ, if◌then◌else◌, List, ◌∷◌, length, replicate, Some, None, Option, nat_lt, slice_index_or, slice_set}
 use Rattle.answer.specs.Answers.{Answer, Needs, Verdict, checked, given_that, unless_refused}
 use Rattle.answer.specs.declared.Outcome.{Outcome}
 use Rattle.answer.specs.declared.Refusal.TheVariants.{NoSection, OutsideValues}
@@ -44,4 +44,4 @@ bench_after b e = unless_refused (verdict_at b e) (slice_set b e.section (state_
 
 -- what is shown of a section, where the bench has it
 abbrev pub face_at : ℕ → BenchState → Option Face
-face_at i b = cond (nat_lt i (length b)) (Some (state_face (section_at i b))) None
+face_at i b = if nat_lt i (length b) then Some (state_face (section_at i b)) else None

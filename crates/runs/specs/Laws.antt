@@ -1,7 +1,7 @@
 -- The laws over every run, on every line: counted from events and answers, refused events included. Of the record only
 -- the unused line clear is read, of the signals only the stop signal that is spoken of, and of the detectors what they
 -- read. Assumes nothing.
-use Rattle.std.specs.Prelude.{◌≡◌, ℕ, ◌+◌, ◌-◌, ◌<◌, ◌≤◌, Bool, true, false, cond, not, ◌&&◌, ◌||◌, List, [], Decides, ◌==◌, nat_lt, slice_index}
+use Rattle.std.specs.Prelude.{◌≡◌, ℕ, ◌+◌, ◌-◌, ◌<◌, ◌≤◌, Bool, true, false, if◌then◌else◌, not, ◌&&◌, ◌||◌, List, [], Decides, ◌==◌, nat_lt, slice_index}
 use Rattle.answer.specs.Answers.{answer_number}
 use Rattle.detector.specs.Meaning.{reads_clear}
 use Rattle.events.specs.Fields.{code_number, consent_number, direction_number, position_number, station_number}
@@ -54,8 +54,8 @@ accepted_on k p x = event_on k p x && answered 0 x
 abbrev pub last_send : ℕ → History → List ℕ
 last_send i start = []
 last_send i (h ▸ x) =
-    cond (x.event.section == i && (is_kind kind.Send x.event.event && answered 0 x))
-    (fields_in x.event.event) (last_send i h)
+    if x.event.section == i && (is_kind kind.Send x.event.event && answered 0 x) then fields_in x.event.event
+    else last_send i h
 
 abbrev pub sent_code : Code → Place → List ℕ → Bool
 sent_code c p sent = slice_index sent 2 == code_number c && direction_number p.line == slice_index sent 0
@@ -135,13 +135,13 @@ unfoldable pub clear_after : Place → Step → Bool
 clear_after p x = reads_clear (detector_on p.line (section_at p.section x.after))
 
 abbrev pub one_if : Bool → ℕ
-one_if b = cond b 1 0
+one_if b = if b then 1 else 0
 
 -- Each second accepted call completes a reset, or a resumption.
 
 abbrev pub half_called : (Place → Step → Bool) → Place → History → Bool
 half_called calls p start = false
-half_called calls p (h ▸ x) = cond (calls p x) (not (half_called calls p h)) (half_called calls p h)
+half_called calls p (h ▸ x) = if calls p x then not (half_called calls p h) else half_called calls p h
 
 abbrev pub completes_reset : Place → Step → History → Bool
 completes_reset p x h = calls_reset p x && half_called calls_reset p h
@@ -168,7 +168,7 @@ account p (h ▸ x) = record {
   -- a consent to a cancel counts while more was given than is used, cancelled and withdrawn
   cancelled = (account p h).cancelled + one_if (cancels p x h && nat_lt (spent (account p h)) (account p h).given);
   -- a resumption withdraws that excess
-  withdrawn = (account p h).withdrawn + cond (completes_resumption p x h) ((account p h).given - spent (account p h)) 0;
+  withdrawn = (account p h).withdrawn + (if completes_resumption p x h then (account p h).given - spent (account p h) else 0);
 }
 
 -- the line clear that the record shows as not used yet
@@ -207,7 +207,7 @@ pub record ReversedUnderClear (p : Place) (h : History) : Type 0 where
 -- the trains whose axles exceed those that left since, where `out` axles left in what came later
 abbrev pub trains : Place → ℕ → History → ℕ
 trains p out start = 0
-trains p out (h ▸ x) = one_if (passes p x && nat_lt out (axles x)) + trains p (out + cond (leaves p x) (axles x) 0) h
+trains p out (h ▸ x) = one_if (passes p x && nat_lt out (axles x)) + trains p (out + (if leaves p x then axles x else 0)) h
 
 abbrev pub trolley : Place → History → Bool
 trolley p start = false

@@ -1,5 +1,5 @@
 -- The bell is asked first and then the lines: what the lines refuse is refused, where the bell was ready. Assumes nothing.
-use Rattle.std.proofs.Common.{◌≡◌, Ok, Err, ap, sym, ◌∙◌, arith}
+use Rattle.std.proofs.Common.{◌≡◌, Ok, Err, arith}
 use Rattle.answer.specs.Answers.{checked}
 use Rattle.answer.specs.declared.Refusal.{Refusal}
 use Rattle.bell.specs.Bells.{bell_needs}

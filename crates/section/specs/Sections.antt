@@ -1,6 +1,6 @@
 -- The rules of a section, by what the detectors of its two lines read: what an event needs, what it is answered, and what
 -- it makes of the bell and of each line. Assumes nothing.
-use Rattle.std.specs.Prelude.{cond, [], ◌∷◌, None, Option, Result}
+use Rattle.std.specs.Prelude.{if◌then◌else◌, [], ◌∷◌, None, Option, Result}
 use Rattle.answer.specs.Answers.{Needs, checked, given_that}
 use Rattle.answer.specs.declared.Outcome.{Outcome}
 use Rattle.answer.specs.declared.Outcome.TheVariants.{Accepted}
@@ -96,7 +96,7 @@ outcome s (event.Roll l t) = Accepted
 
 -- on the line l: one change where l is m, and another where it is not
 abbrev pub on_or_beside : Direction → Direction → Change → Change → Change
-on_or_beside l m here beside = cond (direction_is l m) here beside
+on_or_beside l m here beside = if direction_is l m then here else beside
 
 abbrev pub on_line : Direction → Direction → Change → Change
 on_line l m here = on_or_beside l m here unchanged
@@ -109,7 +109,7 @@ pending_makes (Pending caller m c) y l = on_line l m (acknowledging_makes c (rol
 
 -- axles that leave unexpectedly suspend the other line too
 abbrev pub beside_leaving : Row → Change
-beside_leaving r = cond (used_train r.permission) unchanged suspended
+beside_leaving r = if used_train r.permission then unchanged else suspended
 
 abbrev pub change_on : Direction → Section → Event → Change
 change_on l s (event.Call a) = unchanged
