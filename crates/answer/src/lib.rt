@@ -64,10 +64,7 @@ impl From<Outcome> for u16 {
 pub fn number_of(answer: Answer) -> u16
     ensures { result ≡ answer_number answer }
 {
-    match answer {
-        Ok(outcome) => outcome.into(),
-        Err(refusal) => refusal.into(),
-    }
+    answer.map_or_else(u16::from, u16::from)
 }
 
 // One need of an event: where it does not hold, the event is refused for it.

@@ -1,7 +1,6 @@
 // One event on the bench, and what the bench shows.
 ghost use Rattle.std.specs.Prelude.{◌≡◌, ◌<◌, length, slice_set};
 ghost use Rattle.answer.specs.Answers.{checked, given_that, unless_refused};
-ghost use Rattle.events.specs.Written.{within_values};
 ghost use Rattle.runs.specs.Benches.{answer_at, bench_after, face_at, section_at};
 ghost use Rattle.section.specs.Sections.{outcome};
 ghost use Rattle.section.specs.States.{state_after, state_needs};
@@ -12,17 +11,6 @@ use detector::Detector;
 use events::event::{Event, SectionEvent};
 use section::face::Face;
 use section::instruments::Instruments;
-
-// Whether axles and track, where the event has one, are within their values.
-fn is_within_values(event: Event) -> bool
-    ensures { result ≡ within_values event }
-{
-    match event {
-        Event::Enters { axles, .. } | Event::Leave { axles, .. } => (1..=250).contains(&axles),
-        Event::Roll { track, .. } => track <= 6,
-        _ => true,
-    }
-}
 
 impl<D: Detector> Bench<D> {
     // The event on a section: the bell and the lines answer, the detectors are told, and the signals follow what they read.
@@ -46,7 +34,7 @@ impl<D: Detector> Bench<D> {
         ensures bench { self.new ≡ bench_after self.old event }
     {
         let at = usize::from(event.section);
-        need(is_within_values(event.event), Refusal::OutsideValues)?;
+        need(event.event.is_within_values(), Refusal::OutsideValues)?;
         need(self.has(at), Refusal::NoSection)?;
         self.work(at, event.event)
     }
@@ -56,9 +44,7 @@ impl<D: Detector> Bench<D> {
         ensures { result ≡ face_at section self.now }
     {
         let at = usize::from(section);
-        if !self.has(at) {
-            return None;
-        }
-        Some(self.section(at).face(self.readings(at)))
+        self.has(at)
+            .then(|| self.section(at).face(self.readings(at)))
     }
 }

@@ -44,7 +44,7 @@ pub fn run<D: Detector + Drop>(
 {
     let mut bench = Bench::fresh(heap, sections)?;
     let mut entries = Vec::new(heap);
-    // Each event changes the bench, so this is a loop and no `map`.
+    // A loop, since an entry that finds no memory ends the run.
     for event in events {
         entries.push(bench.enter(*event))?;
     }

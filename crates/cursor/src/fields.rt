@@ -4,7 +4,7 @@ ghost use Rattle.events.specs.Fields.{axle_counts};
 ghost use Rattle.format.specs.Layouts.{field_at, fields_of, layout_at};
 
 use super::Cursor;
-use events::event::Event;
+use events::event::{Event, LAST_TO_ROLL, LEAST_AXLES, MOST_AXLES};
 use events::field::Kind;
 use format::fault::ReadFault;
 
@@ -70,7 +70,7 @@ impl Cursor<'_> {
             }),
             Kind::Roll => Ok(Event::Roll {
                 line: self.value()?,
-                track: self.from_to(0, 6)?,
+                track: self.from_to(0, LAST_TO_ROLL)?,
             }),
         }
     }
@@ -78,6 +78,6 @@ impl Cursor<'_> {
     fn axles(&mut self) -> Result<u16, ReadFault>
         ensures { Goes (field_at axle_counts) self.old self.new result }
     {
-        self.from_to(1, 250)
+        self.from_to(LEAST_AXLES, MOST_AXLES)
     }
 }

@@ -59,7 +59,8 @@ impl<'a> Cursor<'a> {
         })
     }
 
-    // The next number, which has to lie within these bounds.
+    // The next number, which has to lie within these bounds. (With `value` in one function, a closure would judge the number,
+    // and have clauses of its own.)
     #[tactic(auto, unfolding(format::specs::Layouts::field_at))]
     fn from_to(&mut self, least: u16, most: u16) -> Result<u16, ReadFault>
         ensures { Goes (field_at (from_to least most)) self.old self.new result }

@@ -11,7 +11,8 @@ use crate::field::{Code, Consent, Direction, Kind, Place, Position, Station, Tur
 #[derive(Clone, Copy, Debug, PartialEq, Eq)]
 pub struct NoSuchValue(pub u16);
 
-// One match for each enum is its table in the code; `field` is its table in the specs.
+// One match for each enum is its table in the code; `field` is its table in the specs. The eight have nothing else in common
+// than these laws.
 pub trait Numbered: TryFrom<u16, Error = NoSuchValue> {
     ghost field: { Field Self };
 

@@ -2,7 +2,7 @@
 use axle_counter::AxleCounter;
 use detector::{Detector, Reading as Shown};
 use events::event::{Event, LocatedEvent};
-use format::fault::RunFault;
+use format::fault::{RunFault, Stop};
 use reader::reading::Reading;
 use track_row::TrackRow;
 
@@ -25,9 +25,7 @@ fn a_sound_sheet_is_told_whole(rt: HostRuntime) {
 fn events_before_a_fault_are_kept(rt: HostRuntime) {
     let mut reading = Reading::new(rt.alloc());
     let fault = reading.read(&[1, 0, 0, 0, 15]).err();
-    assert!(rt;
-        matches!(fault, Some(RunFault::Read(told)) if told.reason as u8 == 3 && told.offset == 4)
-    );
+    assert_eq!(rt; fault.and_then(RunFault::stop), Some(Stop { number: 3, offset: 4 }));
     assert!(rt; reading.sections == Some(1));
     assert!(rt; reading.events.len() == 1);
 }
