@@ -92,6 +92,8 @@ impl<B: Bank> Bank for Pair<B> {
 
     #[tactic(auto, using(crate::specs::HalvesLemmas::acted_at_interleaved))]
     fn act(&mut self, at: usize, action: Action) {
+        // Here and in `read` the half is chosen in place: a function that lends one would serve one call, and its clauses
+        // would be longer than the choice.
         if at % 2 == 0 {
             self.first.act(at / 2, action);
         } else {

@@ -2,14 +2,17 @@
 use Rattle.std.proofs.Common.{◌≡◌, ℕ, zero, suc, ◌+◌, ◌*◌, ◌<◌, ◌≢◌, List, [], ◌∷◌, length, get_or, drop, set, replicate, sym, refl, ap, ◌∙◌, subst, add-one, arith, true, ltb, cond, Some, None, Option, IsSome}
 use Rattle.std.proofs.lemmas.Bool.{lt-ltb}
 use Rattle.std.proofs.lemmas.Option.{same_Some}
+use Rattle.std.proofs.lemmas.List.Elements.{All-cons, All-head, All-nil, All-tail}
+use Rattle.std.specs.List.{All}
 use Rattle.std.proofs.lemmas.List.{get_or-drop, get_or-set_other, set-get_or}
 use Rattle.bank.specs.Places.{no_detector, read_at}
-use Rattle.block.specs.Tables.{states, with_detectors, with_section}
+use Rattle.block.specs.Tables.{Consistent, states, with_detectors, with_section}
 use Rattle.detector.specs.Meaning.{Meaning, fresh, reading_of}
 use Rattle.detector.specs.declared.Action.{Action}
 use Rattle.detector.specs.declared.Reading.{Reading}
 use Rattle.runs.specs.Benches.{BenchState, no_section, section_at}
 use Rattle.section.specs.States.{SectionState, told}
+use Rattle.section.specs.declared.per_line.PerLine.{PerLine}
 use Rattle.section.specs.declared.section.Section.{Section}
 
 abbrev pub state : Section → Meaning → Meaning → SectionState
@@ -26,6 +29,11 @@ twice_is (suc n) = omega (arith, twice_is n)
 pub length_states : (ss : List Section) (ms : List Meaning) → length (states ss ms) ≡ length ss
 length_states [] ms = refl
 length_states (s ∷ ss) ms = ap suc (length_states ss (drop 2 ms))
+
+pub all_states : (ss : List Section) (ms : List Meaning) → All Consistent ss → All (λ v. Consistent v.section) (states ss ms)
+all_states [] ms kept = All-nil (λ v. Consistent v.section)
+all_states (s ∷ ss) ms kept =
+    All-cons (λ v. Consistent v.section) _ _ (All-head Consistent s ss kept) (all_states ss (drop 2 ms) (All-tail Consistent s ss kept))
 
 at_twice : (ss : List Section) (ms : List Meaning) (i : ℕ) (d : SectionState) (e : Section) → i < length ss → get_or (states ss ms) i d ≡ state (get_or ss i e) (get_or ms (twice i) no_detector) (get_or ms (suc (twice i)) no_detector)
 at_twice [] ms i d e h = absurd (omega arith)
@@ -108,17 +116,17 @@ module _ (ss : List Section) (ms : List Meaning) (b : BenchState) (stands : stat
       ap (states (set ss i s)) (sym as_they_were) ∙ set_state ss ms i s up down there room ∙ ap (λ l. set l i (state s up down)) stands ∙ ap (λ v. set b i (with_section s v)) (sym (stands_at s))
 
   pub told_at :
-      (n : ℕ × ℕ) (o p : Option Action) (ms' ms'' : List Meaning) → n ≡ (2 * i, 2 * i + 1) → 2 * i + 1 < length ms
-      → ms' ≡ set ms n.0 (told o (get_or ms n.0 no_detector)) → ms'' ≡ set ms' n.1 (told p (get_or ms' n.1 no_detector))
+      (n : PerLine ℕ) (o p : Option Action) (ms' ms'' : List Meaning) → n ≡ record { up = 2 * i; down = 2 * i + 1 } → 2 * i + 1 < length ms
+      → ms' ≡ set ms n.up (told o (get_or ms n.up no_detector)) → ms'' ≡ set ms' n.down (told p (get_or ms' n.down no_detector))
       → states ss ms'' ≡ set b i (with_detectors (told o here.up) (told p here.down) here)
   told_at n o p ms' ms'' e room first second =
       let s = here.section in
       let u = told o up in
       let d = told p down in
       let apart : 2 * i + 1 ≢ 2 * i = omega arith in
-      let one : ms' ≡ set ms (2 * i) u = first ∙ ap (λ k. set ms k (told o (get_or ms k no_detector))) (ap (λ q. q.0) e) in
+      let one : ms' ≡ set ms (2 * i) u = first ∙ ap (λ k. set ms k (told o (get_or ms k no_detector))) (ap (λ (q : PerLine ℕ). q.up) e) in
       let row : ms'' ≡ set (set ms (2 * i) u) (2 * i + 1) d =
-      second ∙ ap (λ k. set ms' k (told p (get_or ms' k no_detector))) (ap (λ q. q.1) e) ∙ ap (λ l. set l (2 * i + 1) (told p (get_or l (2 * i + 1) no_detector))) one
+      second ∙ ap (λ k. set ms' k (told p (get_or ms' k no_detector))) (ap (λ (q : PerLine ℕ). q.down) e) ∙ ap (λ l. set l (2 * i + 1) (told p (get_or l (2 * i + 1) no_detector))) one
       ∙ ap (λ m. set (set ms (2 * i) u) (2 * i + 1) (told p m)) (get_or-set_other ms (2 * i) (2 * i + 1) u no_detector apart) in
       let kept : set ss i (get_or ss i s) ≡ ss = set-get_or ss i s in
       ap (λ l. states l ms'') (sym kept) ∙ ap (states (set ss i (get_or ss i s))) row ∙ set_state ss ms i (get_or ss i s) u d there room

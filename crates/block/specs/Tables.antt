@@ -1,5 +1,5 @@
 -- A table of sections over a row of detectors. Assumes nothing.
-use Rattle.std.specs.Prelude.{◌≡◌, true, List, [], ◌∷◌, drop, slice_index_or}
+use Rattle.std.specs.Prelude.{◌≡◌, ◌≤◌, true, All, List, [], ◌∷◌, length, drop, slice_index_or}
 use Rattle.bank.specs.Places.{no_detector}
 use Rattle.detector.specs.Meaning.{Meaning}
 use Rattle.line.specs.Records.{consistent}
@@ -15,6 +15,11 @@ states (s ∷ ss) ms = record { section = s; up = slice_index_or ms 0 no_detecto
 -- both rows of a section keep what a line record keeps
 abbrev pub Consistent : Section → Type 0
 Consistent s = (consistent s.lines.up ≡ true) × (consistent s.lines.down ≡ true)
+
+-- what every bench keeps: at most eight sections, and in each of them rows that keep what a line record keeps
+pub record IsSound (b : BenchState) : Type 0 where
+  pub few : length b ≤ 8
+  pub consistent : All (λ v. Consistent v.section) b
 
 -- the record of a section is put, and its detectors stay
 abbrev pub with_section : Section → SectionState → SectionState

@@ -1,6 +1,7 @@
 // One event on the bench, and what the bench shows.
 ghost use Rattle.std.specs.Prelude.{◌≡◌, ◌<◌, length, slice_set};
 ghost use Rattle.answer.specs.Answers.{checked, given_that, unless_refused};
+ghost use Rattle.block.specs.Tables.{IsSound};
 ghost use Rattle.runs.specs.Benches.{answer_at, bench_after, face_at, section_at};
 ghost use Rattle.section.specs.Sections.{outcome};
 ghost use Rattle.section.specs.States.{state_after, state_needs};
@@ -41,10 +42,16 @@ impl<D: Detector> Bench<D> {
 
     // What is shown of a section, where the bench has it.
     pub fn face(&self, section: u16) -> Option<Face>
-        ensures { result ≡ face_at section self.now }
+        ensures face { result ≡ face_at section self.now }
+
+        // What the model keeps to itself, of any bench.
+        ensures sound { IsSound self.now }
     {
         let at = usize::from(section);
-        self.has(at)
-            .then(|| self.section(at).face(self.readings(at)))
+        // Asked by `if`: in a closure for `then` it is not proved that the section is there.
+        if !self.has(at) {
+            return None;
+        }
+        Some(self.section(at).face(self.readings(at)))
     }
 }

@@ -3,7 +3,7 @@ ghost use Rattle.std.specs.Prelude.{◌≡◌, ◌+◌, ◌*◌, ◌<◌, ◌≤
 ghost use Rattle.bank.specs.Banks.{sixteen};
 ghost use Rattle.bank.specs.Places.{no_detector};
 ghost use Rattle.block.specs.Faults.{Miscounted};
-ghost use Rattle.block.specs.Tables.{Consistent, states, with_detectors, with_section};
+ghost use Rattle.block.specs.Tables.{Consistent, IsSound, states, with_detectors, with_section};
 ghost use Rattle.format.specs.Sheets.{SectionCount};
 ghost use Rattle.runs.specs.Benches.{BenchState, fresh_bench, section_at};
 ghost use Rattle.section.specs.States.{state_readings, told};
@@ -12,11 +12,12 @@ use bank::{Bank, Sixteen};
 use detector::{Action, Detector};
 use format::fault::RunFault;
 use format::sections::section_count;
+use section::per_line::PerLine;
 use section::section::{Actions, Readings, Section};
 use std::alloc::Global;
 use std::marker::Model;
 
-// By the project's rule, sections are plain records in a table and detectors are held by value in a bank, told by number.
+// Sections are plain records in a table, and detectors are held by value in a bank, told by number (docs/DECISIONS.md).
 #[derive(Drop)]
 pub struct Bench<D: Detector> {
     sections: Vec<Section>,
@@ -32,13 +33,13 @@ impl<D: Detector> Model for Bench<D> {
     ghost invariant = { λ b. (vec_len b.sections ≤ 8) × All Consistent b.sections.items };
 }
 
-// The numbers of a section's detectors in the bank: that of its up line, and that of its down line.
-fn detectors_of(at: usize) -> (usize, usize)
+// The numbers of a section's detectors in the bank.
+fn detectors_of(at: usize) -> PerLine<usize>
     requires { at < 8 }
-    ensures { result ≡ (2 * at, 2 * at + 1) }
+    ensures { result ≡ record { up = 2 * at; down = 2 * at + 1 } }
 {
     let up = 2 * at;
-    (up, up + 1)
+    PerLine { up, down: up + 1 }
 }
 
 // Tells a detector of a bank something, or nothing.
@@ -62,9 +63,11 @@ impl<D: Detector> Bench<D> {
         })
     }
 
+    // Which numbers are sections depends on the bench, so no type of a number can say it, and the calls below ask for it.
     #[tactic(auto, using(crate::proofs::Tables::length_states))]
     pub(crate) fn has(&self, at: usize) -> bool
-        ensures { IsTrue result ↔ (at < length self.now) }
+        ensures has { IsTrue result ↔ (at < length self.now) }
+        ensures sound { IsSound self.now }
     {
         at < self.sections.len()
     }
@@ -95,10 +98,10 @@ impl<D: Detector> Bench<D> {
         ensures { result ≡ state_readings (section_at at self.now) }
     {
         let bank = &self.bank;
-        let (up, down) = detectors_of(at);
-        Readings {
-            up: bank.read(up).unwrap(),
-            down: bank.read(down).unwrap(),
+        let detectors = detectors_of(at);
+        PerLine {
+            up: bank.read(detectors.up).unwrap(),
+            down: bank.read(detectors.down).unwrap(),
         }
     }
 
@@ -109,8 +112,8 @@ impl<D: Detector> Bench<D> {
         ensures { self.new ≡ slice_set self.old at (with_detectors (told actions.up (section_at at self.old).up) (told actions.down (section_at at self.old).down) (section_at at self.old)) }
     {
         let bank = &mut self.bank;
-        let (up, down) = detectors_of(at);
-        tell(bank, up, actions.up);
-        tell(bank, down, actions.down);
+        let detectors = detectors_of(at);
+        tell(bank, detectors.up, actions.up);
+        tell(bank, detectors.down, actions.down);
     }
 }

@@ -74,6 +74,7 @@ impl<T: Drop> From<AllocFailed<T>> for RunFault {
     }
 }
 
+// Spelled in full, so that this conversion and the one above can each be changed alone in a must-fail edit.
 impl From<AllocError> for RunFault {
     ghost from_gives = { λ _ r. r ≡ Memory };
 

@@ -76,12 +76,7 @@ impl Row {
         ensures { result ≡ fresh_row }
     {
         Row {
-            permission: Permission {
-                needle: Needle::Closed,
-                permit: Permit::Nothing,
-                used: false,
-                end: End::NotEnded,
-            },
+            permission: Permission::nothing(),
             signals: Signals {
                 stop: Signal::On,
                 home: Signal::On,

@@ -8,7 +8,7 @@ use crate::role::Role;
 use crate::row::{End, Needle, Permission, Permit, Row, Signal, Signals};
 use answer::{Refusal, need};
 use detector::Reading;
-use events::field::{Code, Position, Turn};
+use events::field::{Code, Direction, Position, Station, Turn};
 
 // A code, and the end of the line that sends it.
 #[derive(Clone, Copy, Debug, PartialEq, Eq)]
@@ -27,6 +27,18 @@ impl Signals {
 }
 
 impl Sending {
+    ghost use Rattle.line.specs.Sendings.{sending_by};
+
+    // The code as this station sends it about the line.
+    pub fn by(station: Station, line: Direction, code: Code) -> Sending
+        ensures { result ≡ sending_by station line code }
+    {
+        Sending {
+            code,
+            role: Role::of(station, line),
+        }
+    }
+
     // Whether the code is this end's to send. Obstruction removed is sent from the end that the blocking says.
     fn role_allows(self) -> bool
         ensures { result ≡ role_allows self.code self.role }
@@ -57,9 +69,7 @@ impl Sending {
                 Permit::Trolley => used,
                 _ => false,
             },
-            Code::TrainOut => {
-                needle == Needle::TrainOnLine && matches!(permit, Permit::Train | Permit::Trolley)
-            }
+            Code::TrainOut => { needle == Needle::TrainOnLine && permission.train_or_trolley() }
             Code::CancelLast => match permit {
                 Permit::Train => needle == Needle::Clear && !used,
                 Permit::Trolley => !used || end == End::Returned,
@@ -172,9 +182,7 @@ impl Sending {
             Code::IsLineClear => Permission::given(Needle::Clear, Permit::Train),
             Code::TrainEntering => permission.now_on_line(),
             Code::TrainOut => permission,
-            Code::CancelLast | Code::ObstructionRemoved => {
-                Permission::given(Needle::Closed, Permit::Nothing)
-            }
+            Code::CancelLast | Code::ObstructionRemoved => Permission::nothing(),
             Code::Trolley => Permission::given(Needle::TrainOnLine, Permit::Trolley),
             Code::BlockForward => Permission::given(Needle::TrainOnLine, Permit::Forward),
             Code::BlockBack => Permission::given(Needle::TrainOnLine, Permit::Back),

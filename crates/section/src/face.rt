@@ -43,9 +43,6 @@ impl Section {
     pub fn face(&self, readings: Readings) -> Face
         ensures { result ≡ face_of self.now readings }
     {
-        PerLine {
-            up: LineFace::of(self.lines.up, readings.up),
-            down: LineFace::of(self.lines.down, readings.down),
-        }
+        PerLine::each(|line| LineFace::of(*self.lines.on(line), *readings.on(line)))
     }
 }

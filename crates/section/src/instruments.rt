@@ -13,7 +13,6 @@ use detector::Action;
 use events::event::Event;
 use events::field::Direction;
 use line::line::{Inconsistent, Line};
-use line::role::Role;
 use line::row::Row;
 use line::sending::Sending;
 use std::marker::Model;
@@ -74,10 +73,7 @@ impl Worked {
     {
         Worked {
             outcome: Outcome::Accepted,
-            actions: PerLine {
-                up: None,
-                down: None,
-            },
+            actions: PerLine::each(|_| None),
         }
     }
 
@@ -85,10 +81,7 @@ impl Worked {
     fn telling(outcome: Outcome, line: Direction, action: Option<Action>) -> Worked
         ensures { result ≡ telling outcome line action }
     {
-        let mut actions = PerLine {
-            up: None,
-            down: None,
-        };
+        let mut actions = PerLine::each(|_| None);
         *actions.on_mut(line) = action;
         Worked { outcome, actions }
     }
@@ -122,18 +115,18 @@ impl Instruments {
                 code,
                 turn,
             } => {
-                let role = Role::of(station, line);
+                let sending = Sending::by(station, line, code);
                 let at = self.lines.on_mut(line);
-                at.send(Sending { code, role }, turn, *readings.on(line))?;
+                at.send(sending, turn, *readings.on(line))?;
                 Ok(Worked::accepted())
             }
             Event::Acknowledge { consent, turn, .. } => {
                 let Bell::Pending { caller, line, code } = self.bell else {
                     return Ok(Worked::accepted());
                 };
-                let role = Role::of(caller, line);
+                let sending = Sending::by(caller, line, code);
                 let at = self.lines.on_mut(line);
-                at.acknowledge(Sending { code, role }, consent, turn, *readings.on(line))?;
+                at.acknowledge(sending, consent, turn, *readings.on(line))?;
                 Ok(Worked::accepted())
             }
             Event::StopControl { line, position } => {

@@ -11,6 +11,17 @@ pub struct PerLine<T> {
 }
 
 impl<T> PerLine<T> {
+    // One for each line, as `of` makes it.
+    pub(crate) fn each<F: Fn(Direction) -> T>(of: F) -> PerLine<T>
+        requires { F.IsAlwaysCallable of }
+        ensures { F.post of Direction.Up result.up × F.post of Direction.Down result.down }
+    {
+        PerLine {
+            up: of(Direction::Up),
+            down: of(Direction::Down),
+        }
+    }
+
     ghost use Rattle.section.specs.PerLines.{on, with_on};
     ghost use Rattle.section.specs.contracts.per_line.PerLine.{the_row};
 

@@ -34,10 +34,7 @@ impl Section {
     {
         Section {
             bell: Bell::Idle,
-            lines: PerLine {
-                up: Row::fresh(),
-                down: Row::fresh(),
-            },
+            lines: PerLine::each(|_| Row::fresh()),
         }
     }
 }

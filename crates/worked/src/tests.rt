@@ -25,7 +25,13 @@ fn a_sound_sheet_is_told_whole(rt: HostRuntime) {
 fn events_before_a_fault_are_kept(rt: HostRuntime) {
     let mut reading = Reading::new(rt.alloc());
     let fault = reading.read(&[1, 0, 0, 0, 15]).err();
-    assert_eq!(rt; fault.and_then(RunFault::stop), Some(Stop { number: 3, offset: 4 }));
+    assert_eq!(rt;
+        fault.and_then(RunFault::stop),
+        Some(Stop {
+            number: 3,
+            offset: 4
+        })
+    );
     assert!(rt; reading.sections == Some(1));
     assert!(rt; reading.events.len() == 1);
 }

@@ -19,7 +19,7 @@ impl Line {
     {
         sending.check_sent(turn, reading, self.row)?;
         if sending.effective_when_sent() {
-            self.row.permission = Permission::given(Needle::Closed, Permit::Nothing);
+            self.row.permission = Permission::nothing();
         }
         Ok(())
     }

@@ -37,7 +37,8 @@ impl Line {
         Ok(())
     }
 
-    // Moves the home control, and the home signal with it.
+    // Moves the home control, and the home signal with it. Needs and signal are others than the stop control's: one function
+    // for both would take them as closures, longer than they are here.
     pub fn move_home_control(&mut self, position: Position) -> Result<(), Refusal>
         ensures { Judged (home_control_needs position self.old) (home_moved position) self.old self.new result }
     {
@@ -95,7 +96,7 @@ impl Line {
         ensures row { (axles : ℕ) → self.new ≡ row_after (leaving_makes axles self.old) self.old }
     {
         if self.row.permission.used_train() {
-            self.row.permission = self.row.permission.now_arrived();
+            self.row.permission = self.row.permission.now_ended(Place::Arrived);
             self.row.signals.home = Signal::On;
             return Outcome::Accepted;
         }
@@ -154,7 +155,7 @@ impl Line {
         need(signals.both_normal(), Refusal::SignalOrControl)?;
         need(reading == Reading::Clear, Refusal::DetectorNotClear)?;
         if kept.is_some() {
-            self.row.permission = Permission::given(Needle::Closed, Permit::Nothing);
+            self.row.permission = Permission::nothing();
             self.row.signals.suspended = false;
         }
         self.row.calls.resume = kept.xor(Some(station));

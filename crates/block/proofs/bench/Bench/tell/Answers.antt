@@ -11,5 +11,5 @@ returns g c =
     let m = sixteen g.D.Detector.meaning in
     let within = there b.sections.items (m b.bank) c.args.self.now c.self.view_is at c.requires in
     let room : 2 * at + 1 < length (m b.bank) = omega (arith, within, b.sections.ok.0, c.self.invariant.0, length_sixteen g.D.Detector.meaning b.bank) in
-    told_at b.sections.items (m b.bank) c.args.self.now c.self.view_is at c.requires c.detectors_of-up.result c.args.actions.up c.args.actions.down
-    (m c.tell.new.bank) (m c.tell-2.new.bank) c.detectors_of-up.ensures room c.tell.ensures c.tell-2.ensures
+    told_at b.sections.items (m b.bank) c.args.self.now c.self.view_is at c.requires c.detectors_of-detectors.result c.args.actions.up c.args.actions.down
+    (m c.tell.new.bank) (m c.tell-2.new.bank) c.detectors_of-detectors.ensures room c.tell.ensures c.tell-2.ensures
