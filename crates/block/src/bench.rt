@@ -99,6 +99,7 @@ impl<D: Detector> Bench<D> {
     {
         let bank = &self.bank;
         let detectors = detectors_of(at);
+        // Written out: `each` asks something of its closure, so it stays inside its crate.
         PerLine {
             up: bank.read(detectors.up).unwrap(),
             down: bank.read(detectors.down).unwrap(),

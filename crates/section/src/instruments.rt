@@ -43,6 +43,7 @@ impl TryFrom<Section> for Instruments {
     fn try_from(section: Section) -> Result<Instruments, Inconsistent> {
         Ok(Instruments {
             bell: section.bell,
+            // Written out, as a closure for `each` could not leave the function by `?`.
             lines: PerLine {
                 up: Line::try_from(section.lines.up)?,
                 down: Line::try_from(section.lines.down)?,
@@ -58,10 +59,7 @@ impl From<Instruments> for Section {
     fn from(instruments: Instruments) -> Section {
         Section {
             bell: instruments.bell,
-            lines: PerLine {
-                up: Row::from(instruments.lines.up),
-                down: Row::from(instruments.lines.down),
-            },
+            lines: PerLine::each(|line| Row::from(*instruments.lines.on(line))),
         }
     }
 }
