@@ -37,7 +37,6 @@ use Rattle.section.specs.States.{SectionState, detector_on, state_needs, state_r
 
 -- the record and the detector of a line before a change
 abbrev pub Legal : Change → Row → Meaning → Type 0
-Legal unchanged r m = Unit {0}
 Legal train_given r m = needle_is Closed r.permission ≡ true
 Legal trolley_given r m = needle_is Closed r.permission ≡ true
 Legal blocked_forward r m = needle_is Closed r.permission ≡ true
@@ -51,19 +50,14 @@ Legal cancelled r m =
     × ((not (is_off r.signals.stop) && both_normal r.signals) ≡ true)
 Legal unblocked r m = is_blocked r.permission ≡ true
 Legal stop_reversed r m = (not r.signals.suspended ≡ true) × (clear_for_train r.permission ≡ true) × (reads_clear m ≡ true)
-Legal stop_put_back r m = Unit {0}
-Legal (home_moved q) r m = Unit {0}
 Legal (passed k) r m = is_off r.signals.stop ≡ true
 Legal (passed_at_on k) r m = is_off r.signals.stop ≡ false
 Legal (left k) r m = used_train r.permission ≡ true
 Legal (left_unexpected k) r m = used_train r.permission ≡ false
-Legal suspended r m = Unit {0}
 Legal trolley_started r m = unused_trolley r.permission ≡ true
 Legal (trolley_ended e) r m = running_trolley r.permission ≡ true
-Legal detector_failed r m = Unit {0}
-Legal (rolled t) r m = Unit {0}
-Legal (reset_called a) r m = Unit {0}
 Legal (resume_called a) r m = (r.signals.suspended ≡ true) × (both_normal r.signals ≡ true) × (reads_clear m ≡ true)
+Legal c r m = Unit {0}
 
 -- every condition of a list holds
 abbrev pub Holds : Needs → Type 0
@@ -89,35 +83,20 @@ module _ (r : Row) (m : Meaning) where
   one_legal false c d k j = j
 
   sending_legal : (c : Code) (x : Role) (turned : Bool) → Holds (code_needs c x turned (reading_of m) r) → Legal (sending_makes c x) r m
-  sending_legal code.IsLineClear x turned k = tt
-  sending_legal code.TrainEntering x turned k = tt
   sending_legal code.TrainOut x turned k = grind (arith, nat_tests)
-  sending_legal code.CancelLast x turned k = tt
   sending_legal code.ObstructionRemoved x turned k = one_legal (role_is x Receiving) unblocked unchanged (grind (arith, nat_tests)) tt
-  sending_legal code.Trolley x turned k = tt
-  sending_legal code.BlockForward x turned k = tt
-  sending_legal code.BlockBack x turned k = tt
+  sending_legal c x turned k = tt
 
   consent_legal : (c : Code) (x : Role) (turned : Bool) → effective_when_sent c x ≡ false → Holds (code_needs c x turned (reading_of m) r) → Legal (consent_makes c x) r m
-  consent_legal code.IsLineClear x turned e k = grind (arith, nat_tests)
-  consent_legal code.TrainEntering x turned e k = grind (arith, nat_tests)
   consent_legal code.TrainOut x turned e k = tt
-  consent_legal code.CancelLast x turned e k = grind (arith, nat_tests)
   consent_legal code.ObstructionRemoved x turned e k = one_legal (role_is x Receiving) unchanged unblocked tt (grind (arith, nat_tests))
-  consent_legal code.Trolley x turned e k = grind (arith, nat_tests)
-  consent_legal code.BlockForward x turned e k = grind (arith, nat_tests)
-  consent_legal code.BlockBack x turned e k = grind (arith, nat_tests)
+  consent_legal c x turned e k = grind (arith, nat_tests)
 
   -- what took effect when it was sent changes nothing any more
   heard_legal : (c : Code) (x : Role) → effective_when_sent c x ≡ true → Legal (consent_makes c x) r m
-  heard_legal code.IsLineClear x e = grind arith
-  heard_legal code.TrainEntering x e = grind arith
   heard_legal code.TrainOut x e = tt
-  heard_legal code.CancelLast x e = grind arith
   heard_legal code.ObstructionRemoved x e = rw e tt
-  heard_legal code.Trolley x e = grind arith
-  heard_legal code.BlockForward x e = grind arith
-  heard_legal code.BlockBack x e = grind arith
+  heard_legal c x e = grind arith
 
   acknowledging_legal : (c : Code) (x : Role) (y : Consent) (t : Turn) → Holds (acknowledge_needs c x y t (reading_of m) r) → Legal (acknowledging_makes c x y) r m
   acknowledging_legal c x consent.Withheld t k = tt
@@ -170,18 +149,13 @@ module _ (v : SectionState) where
   line_legal l n own k = named_legal l n own unchanged k tt
 
   pending_legal : (l : Direction) (b : Bell) (y : Consent) (t : Turn) → Holds (pending_needs b y t (state_readings v) v.section) → Legal (pending_makes b y l) (row l) (detector l)
-  pending_legal l Idle y t k = tt
-  pending_legal l (Called caller) y t k = tt
-  pending_legal l (Attentive caller) y t k = tt
   pending_legal l (Pending caller n c) y t k =
       line_legal l n (acknowledging_makes c (role_of n caller) y) (acknowledging_legal (row n) (detector n) c (role_of n caller) y t (rw (seen n) at k))
+  pending_legal l b y t k = tt
 
   pub legal : (l : Direction) (e : Event) → Holds (state_needs v e) → Legal (change_on l v.section e) (row l) (detector l)
-  legal l (event.Call a) k = tt
-  legal l (event.Answer a) k = tt
   legal l (event.Send n a c t) k = line_legal l n (sending_makes c (role_of n a)) (sending_legal (row n) (detector n) c (role_of n a) _ (rw (seen n) at k.1.1))
   legal l (event.Acknowledge a y t) k = pending_legal l v.section.bell y t k.1
-  legal l (event.Error a) k = tt
   legal l (event.StopControl n q) k = line_legal l n (stop_control_makes q) (stop_legal (row n) (detector n) q (rw (seen n) at k.1))
   legal l (event.HomeControl n q) k = line_legal l n (home_moved q) tt
   legal l (event.Enters n axles) k = line_legal l n (entering_makes axles (row n)) (entering_legal (row n) (detector n) axles (is_off (row n).signals.stop) refl)
@@ -195,3 +169,4 @@ module _ (v : SectionState) where
   legal l (event.Reset n a) k = line_legal l n (reset_called a) tt
   legal l (event.Resume n a) k = line_legal l n (resume_called a) (resume_legal (row n) (detector n) a (rw (seen n) at k.1))
   legal l (event.Roll n t) k = line_legal l n (rolled t) tt
+  legal l e k = tt

@@ -47,12 +47,9 @@ counts_out c = is c (left 0) || is c (left_unexpected 0)
 
 -- the axles that a detector is told to count, in or out
 abbrev pub axles_told : Option Action → ℕ
-axles_told None = 0
 axles_told (Some (action.CountIn k)) = k
 axles_told (Some (action.CountOut k)) = k
-axles_told (Some action.Fail) = 0
-axles_told (Some action.Reset) = 0
-axles_told (Some (action.Roll t)) = 0
+axles_told t = 0
 
 -- every word, where the change c happens to the line p by the step x after the history h
 pub record Says (c : Change) (p : Place) (x : Step) (h : History) : Type 0 where

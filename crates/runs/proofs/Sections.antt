@@ -1,5 +1,5 @@
 -- What every run keeps of one section, over an event in it, a refused event and an event elsewhere. Assumes nothing.
-use Rattle.std.proofs.Common.{◌≡◌, ℕ, Bool, true, false, cond, ◌&&◌, eqb, List, refl, Ok, Err}
+use Rattle.std.proofs.Common.{◌≡◌, ℕ, Bool, true, false, cond, ◌&&◌, eqb, List, refl, Ok, Err, arith}
 use Rattle.answer.specs.Answers.{answer_number, refusal_number}
 use Rattle.answer.specs.declared.Refusal.{Refusal}
 use Rattle.answer.specs.declared.Refusal.TheVariants as refusal
@@ -55,16 +55,7 @@ heard_after b sent s (event.Answer a) o = tt
 heard_after b sent s (event.Send l a c t) o = (refl, refl, refl)
 heard_after b sent s (event.Acknowledge a y t) o = tt
 heard_after b sent s (event.Error a) o = tt
-heard_after b sent s (event.StopControl l q) o = o
-heard_after b sent s (event.HomeControl l q) o = o
-heard_after b sent s (event.Enters l k) o = o
-heard_after b sent s (event.Leave l k) o = o
-heard_after b sent s (event.TrolleyStarts l) o = o
-heard_after b sent s (event.TrolleyEnds l e) o = o
-heard_after b sent s (event.Fails l) o = o
-heard_after b sent s (event.Reset l a) o = o
-heard_after b sent s (event.Resume l a) o = o
-heard_after b sent s (event.Roll l t) o = o
+heard_after b sent s e o = o
 
 module _ (i j : ℕ) (e : Event) (before after : BenchState) (h : History) (here : eqb j i ≡ true) where
   abbrev state : SectionState
@@ -106,22 +97,10 @@ module _ (i : ℕ) (x : Step) (h : History) (became : section_at i x.after ≡ s
 
 -- the number of a refusal is that of no other answer
 apart : (r : Refusal) → (eqb (refusal_number r) 0 ≡ false) × (eqb (refusal_number r) 90 ≡ false) × (eqb (refusal_number r) 91 ≡ false)
-apart refusal.OutsideValues = (refl, refl, refl)
-apart refusal.NoSection = (refl, refl, refl)
-apart refusal.BellNotReady = (refl, refl, refl)
-apart refusal.WrongStation = (refl, refl, refl)
-apart refusal.LineSuspended = (refl, refl, refl)
-apart refusal.RecordNotAsNeeded = (refl, refl, refl)
-apart refusal.WrongTurn = (refl, refl, refl)
-apart refusal.SignalOrControl = (refl, refl, refl)
-apart refusal.DetectorNotClear = (refl, refl, refl)
-apart refusal.NotArrived = (refl, refl, refl)
-apart refusal.CallNotNeeded = (refl, refl, refl)
+apart r = grind arith
 
 unsent : {A : Type 0} (a b : Bool) (new old : A) → cond (a && (b && false)) new old ≡ old
-unsent true true new old = refl
-unsent true false new old = refl
-unsent false b new old = refl
+unsent a b new old = grind arith
 
 pub safe_refused : (i : ℕ) (r : Refusal) (e : SectionEvent) (b : BenchState) (h : History) → Safe i (section_at i b) h
     → Safe i (section_at i b) (h ▸ record { event = e; before = b; answer = Err r; after = b })

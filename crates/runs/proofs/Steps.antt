@@ -44,17 +44,13 @@ says_nothing_refused p x h a b c = grind (arith, nat_tests)
 
 -- a code that is pending is the last that was sent
 abbrev pub Heard : Bell → List ℕ → Type 0
-Heard Idle sent = Unit {0}
-Heard (Called caller) sent = Unit {0}
-Heard (Attentive caller) sent = Unit {0}
 Heard (Pending caller l c) sent =
     (get_or sent 0 0 ≡ direction_number l) × (get_or sent 1 0 ≡ station_number caller) × (get_or sent 2 0 ≡ code_number c)
+Heard b sent = Unit {0}
 
 same_direction : (l m : Direction) → direction_is l m ≡ true → l ≡ m
 same_direction Up Up e = refl
-same_direction Up Down e = grind arith
-same_direction Down Up e = grind arith
-same_direction Down Down e = refl
+same_direction l m e = grind arith
 
 module _ (i j : ℕ) (l : Direction) (before after : BenchState) (h : History) (here : eqb j i ≡ true) where
   -- the step of an event in the section i, with its answer, says that the change c happens to its line l
@@ -71,13 +67,7 @@ module _ (i j : ℕ) (l : Direction) (before after : BenchState) (h : History) (
       → Said (consent_makes c (role_of l caller)) (event.Acknowledge a consent.Given t) Accepted
   unfolding words
   consent_says caller a code.IsLineClear t o = grind (arith, nat_tests)
-  consent_says caller a code.TrainEntering t o = grind (arith, nat_tests)
-  consent_says caller a code.TrainOut t o = grind (arith, nat_tests)
-  consent_says caller a code.CancelLast t o = grind (arith, nat_tests)
-  consent_says caller a code.ObstructionRemoved t o = grind (arith, nat_tests)
-  consent_says caller a code.Trolley t o = grind (arith, nat_tests)
-  consent_says caller a code.BlockForward t o = grind (arith, nat_tests)
-  consent_says caller a code.BlockBack t o = grind (arith, nat_tests)
+  consent_says caller a c t o = grind (arith, nat_tests)
 
   withheld_says : (a : Station) (t : Turn) → Said unchanged (event.Acknowledge a consent.Withheld t) Accepted
   unfolding words
@@ -125,38 +115,27 @@ module _ (i j : ℕ) (l : Direction) (before after : BenchState) (h : History) (
 
   acknowledging_says : (b : Bell) (a : Station) (y : Consent) (t : Turn) → bell_ready b (event.Acknowledge a y t) ≡ true → Heard b (last_send i h)
       → Said (pending_makes b y l) (event.Acknowledge a y t) Accepted
-  acknowledging_says Idle a y t r o = absurd (both_ways false refl r)
-  acknowledging_says (Called caller) a y t r o = absurd (both_ways false refl r)
-  acknowledging_says (Attentive caller) a y t r o = absurd (both_ways false refl r)
   acknowledging_says (Pending caller m c) a consent.Withheld t r o =
       named_says m (λ n. unchanged) (λ n. unchanged) (λ n. event.Acknowledge a consent.Withheld t) (λ n. Accepted)
       (λ same. withheld_says a t) (λ d. withheld_says a t)
   acknowledging_says (Pending caller m c) a consent.Given t r o =
       named_says m (λ n. consent_makes c (role_of n caller)) (λ n. unchanged) (λ n. event.Acknowledge a consent.Given t) (λ n. Accepted)
       (λ same. consent_says caller a c t (rw same o)) (λ d. consent_says_beside a consent.Given t (rw o.0 d))
+  acknowledging_says b a y t r o = grind arith
 
   pub says_accepted : (s : Section) (e : Event) → bell_ready s.bell e ≡ true → Heard s.bell (last_send i h) → Said (change_on l s e) e (outcome s e)
   unfolding words
-  says_accepted s (event.Call a) r o = grind (arith, nat_tests)
-  says_accepted s (event.Answer a) r o = grind (arith, nat_tests)
   says_accepted s (event.Send m a c t) r o =
       named_says m (λ n. sending_makes c (role_of n a)) (λ n. unchanged) (λ n. event.Send n a c t) (λ n. Accepted)
       (λ same. sending_says a c t) (says_nothing_beside (event.Send m a c t) Accepted refl refl)
   says_accepted s (event.Acknowledge a y t) r o = acknowledging_says s.bell a y t r o
-  says_accepted s (event.Error a) r o = grind (arith, nat_tests)
   says_accepted s (event.StopControl m q) r o =
       named_says m (λ n. stop_control_makes q) (λ n. unchanged) (λ n. event.StopControl n q) (λ n. Accepted)
       (λ same. stop_says q) (says_nothing_beside (event.StopControl m q) Accepted refl refl)
-  says_accepted s (event.HomeControl m q) r o = grind (arith, nat_tests)
   says_accepted s (event.Enters m k) r o =
       named_says m (λ n. entering_makes k (row_of n s)) (λ n. unchanged) (λ n. event.Enters n k) (λ n. entering_answer (row_of n s))
       (λ same. entering_says k (is_off (row_of l s).signals.stop)) (says_nothing_beside (event.Enters m k) (entering_answer (row_of m s)) refl refl)
   says_accepted s (event.Leave m k) r o =
       named_says m (λ n. leaving_makes k (row_of n s)) (λ n. beside_leaving (row_of n s)) (λ n. event.Leave n k) (λ n. leaving_answer (row_of n s))
       (λ same. leaving_says k (used_train (row_of l s).permission)) (leaving_says_beside m k (used_train (row_of m s).permission))
-  says_accepted s (event.TrolleyStarts m) r o = grind (arith, nat_tests)
-  says_accepted s (event.TrolleyEnds m e) r o = grind (arith, nat_tests)
-  says_accepted s (event.Fails m) r o = grind (arith, nat_tests)
-  says_accepted s (event.Reset m a) r o = grind (arith, nat_tests)
-  says_accepted s (event.Resume m a) r o = grind (arith, nat_tests)
-  says_accepted s (event.Roll m t) r o = grind (arith, nat_tests)
+  says_accepted s e r o = grind (arith, nat_tests)
