@@ -9,7 +9,7 @@ use Rattle.section.specs.Sections.{outcome}
 use Rattle.section.specs.States.{SectionState, state_after}
 use Rattle.runs.specs.Benches.{BenchState, bench_after, bench_needs, no_section, section_at, verdict_at}
 use Rattle.runs.specs.Histories.{History, Step, ◌▸◌}
-use Rattle.runs.proofs.Legal.{Holds, judged}
+use Rattle.runs.proofs.Legal.{Holds, held}
 use Rattle.runs.proofs.Sections.{Safe, safe_after, safe_elsewhere, safe_refused}
 
 -- a refused event leaves the bench as it was
@@ -72,8 +72,8 @@ module _ (b : BenchState) (e : SectionEvent) (h : History) where
       subst (λ (v : SectionState). Safe i v (h ▸ judged_step (Ok tt))) (sym became) (safe_elsewhere i (judged_step (Ok tt)) h became away safe)
 
   pub safe_step : (i : ℕ) → Safe i (section_at i b) h → SafeAfter i (verdict_at b e)
-  safe_step i safe = go (judged (bench_needs b e))
+  safe_step i safe = go (verdict_at b e) refl
     where
-      go : ((r : Refusal) × (verdict_at b e ≡ Err r)) ⊎ (Holds (bench_needs b e) × (verdict_at b e ≡ Ok tt)) → SafeAfter i (verdict_at b e)
-      go (inl x) = subst (SafeAfter i) (sym x.1) (safe_refused i x.0 e b h safe)
-      go (inr x) = subst (SafeAfter i) (sym x.1) (accepted_safe i x.0 safe (eqb e.section i) refl)
+      go : (v : Verdict) → verdict_at b e ≡ v → SafeAfter i v
+      go (Ok _) ok = accepted_safe i (held (bench_needs b e) ok) safe (eqb e.section i) refl
+      go (Err r) refused = safe_refused i r e b h safe

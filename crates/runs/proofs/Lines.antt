@@ -18,7 +18,7 @@ use Rattle.section.specs.States.{told}
 use Rattle.runs.specs.Histories.{History, Step, ◌▸◌, start}
 use Rattle.runs.specs.Laws as law
 use Rattle.runs.specs.Laws.{Lawful, Place, account, axles, blocking, calls_reset, calls_resume, clear_after, leaves, occupants, off_before, one_if, orderly, passes, spent, trains, trolley, unused}
-use Rattle.runs.proofs.Legal.{Legal}
+use Rattle.runs.proofs.Legal.{Legal, permission_before}
 use Rattle.runs.proofs.Observed.{Says}
 use Rattle.runs.proofs.Signal.{reversal_stands, tellings_agree, train_stands}
 
@@ -57,9 +57,9 @@ pub record Sound (r : Row) (m : Meaning) : Type 0 where
   pub off_reads_clear : is_off r.signals.stop ≡ true → reads_clear m ≡ true
 
 module _ (r : Row) (m : Meaning) where
-  permission_after : (c : Change) → Legal c r m → SoundPermission r.permission → SoundSignals r → SoundPermission (row_after c r).permission
-  permission_after unchanged l s o = grind (arith, nat_tests)
-  permission_after c l s o = grind (arith, nat_tests)
+  permission_after : (c : Change) → permission_before c r.permission ≡ true → SoundPermission r.permission → SoundPermission (row_after c r).permission
+  permission_after unchanged l s = grind (arith, nat_tests)
+  permission_after c l s = grind (arith, nat_tests)
 
   signals_after : (c : Change) → Legal c r m → SoundPermission r.permission → SoundSignals r → SoundSignals (row_after c r)
   signals_after unchanged l s o = grind (arith, nat_tests)
@@ -73,7 +73,7 @@ settled_reads_clear m r e = grind (arith, nat_tests)
 
 sound_after : (c : Change) (r : Row) (m : Meaning) → Legal c r m → Sound r m → Sound (settled_after c r m) (meaning_after c r m)
 sound_after c r m l s = record {
-  permission = permission_after r m c l s.permission s.signals;
+  permission = permission_after r m c l.0 s.permission;
   signals = settled_signals (reading_of (meaning_after c r m)) (row_after c r) (signals_after r m c l s.permission s.signals);
   off_reads_clear = settled_reads_clear (meaning_after c r m) (row_after c r);
 }
@@ -163,9 +163,9 @@ module _ (r : Row) (m : Meaning) (p : Place) (x : Step) (h : History) where
   pub kept_still : Says unchanged p x h → Between r m p x → Kept r m p h → Kept r m p (h ▸ x)
   kept_still w b k = record {
     sound = k.sound;
-    uses = uses_after unchanged tt k.sound w k.uses;
+    uses = uses_after unchanged (refl, refl, refl) k.sound w k.uses;
     line_clear = still_line_clear k.sound w b k.line_clear;
-    trains = trains_after unchanged tt k.sound w b k.uses k.trains;
+    trains = trains_after unchanged (refl, refl, refl) k.sound w b k.uses k.trains;
   }
 
 pub kept_fresh : (p : Place) → Kept fresh_row fresh p start
