@@ -80,10 +80,14 @@ sound_after c r m l s = record {
 
 -- The record and the history.
 
--- who has called, and who uses the line
-pub record KeptUses (g : Permission) (called : Calls) (p : Place) (h : History) : Type 0 where
+-- who has called
+pub record KeptCalls (called : Calls) (p : Place) (h : History) : Type 0 where
   pub reset : law.half_called calls_reset p h ≡ half_called called.reset
   pub resume : law.half_called calls_resume p h ≡ half_called called.resume
+
+-- who uses the line
+pub record KeptUses (g : Permission) (called : Calls) (p : Place) (h : History) : Type 0 where
+  pub calls : KeptCalls called p h
   pub trolley : trolley p h ≡ running_trolley g
   pub blocking : blocking p h ≡ is_blocked g
 
@@ -117,34 +121,22 @@ pub record Between (r : Row) (m : Meaning) (p : Place) (x : Step) : Type 0 where
 module _ (r : Row) (m : Meaning) (p : Place) (x : Step) (h : History) where
   uses_after : (c : Change) → Legal c r m → Sound r m → Says c p x h → KeptUses r.permission r.calls p h
       → KeptUses (row_after c r).permission (row_after c r).calls p (h ▸ x)
-  uses_after (resume_called a) l s w u = go (half_called r.calls.resume) refl
-    where
-      go : (done : Bool) → half_called r.calls.resume ≡ done → KeptUses (resumed done a r).permission (resumed done a r).calls p (h ▸ x)
-      go true e = grind (arith, nat_tests)
-      go false e = grind (arith, nat_tests)
+  uses_after (resume_called a) _ _ w u = grind (arith, nat_tests)
   uses_after c l s w u = grind (arith, nat_tests)
 
-  line_clear_after : (c : Change) → Legal c r m → Sound r m → Says c p x h → Between r (meaning_after c r m) p x → KeptUses r.permission r.calls p h
+  line_clear_after : (c : Change) → Legal c r m → Sound r m → Says c p x h → Between r (meaning_after c r m) p x → KeptCalls r.calls p h
       → KeptLineClear r p h → KeptLineClear (settled_after c r m) p (h ▸ x)
-  line_clear_after (resume_called a) l s w b u i = go (half_called r.calls.resume) refl
-    where
-      go : (done : Bool) → half_called r.calls.resume ≡ done → KeptLineClear (settled (reading_of m) (resumed done a r)) p (h ▸ x)
-      go true e = grind (arith, nat_tests)
-      go false e = grind (arith, nat_tests)
+  line_clear_after (resume_called a) l s w _ u i = record {
+    account = grind (arith, nat_tests);
+    signal = grind (arith, nat_tests);
+    train = grind (arith, nat_tests);
+  }
   line_clear_after c l s w b u i = grind (arith, nat_tests)
 
-  trains_after : (c : Change) → Legal c r m → Sound r m → Says c p x h → Between r (meaning_after c r m) p x → KeptUses r.permission r.calls p h
+  trains_after : (c : Change) → Legal c r m → Sound r m → Says c p x h → Between r (meaning_after c r m) p x → KeptCalls r.calls p h
       → KeptTrains r.permission m p h → KeptTrains (row_after c r).permission (meaning_after c r m) p (h ▸ x)
-  trains_after (reset_called a) l s w b u i = go (half_called r.calls.reset) refl
-    where
-      go : (done : Bool) → half_called r.calls.reset ≡ done → KeptTrains r.permission (restored_if done m) p (h ▸ x)
-      go true e = grind (arith, nat_tests)
-      go false e = grind (arith, nat_tests)
-  trains_after (resume_called a) l s w b u i = go (half_called r.calls.resume) refl
-    where
-      go : (done : Bool) → half_called r.calls.resume ≡ done → KeptTrains (resumed done a r).permission m p (h ▸ x)
-      go true e = grind (arith, nat_tests)
-      go false e = grind (arith, nat_tests)
+  trains_after (reset_called a) _ _ w _ u i = grind (arith, nat_tests)
+  trains_after (resume_called a) _ _ w _ u i = grind (arith, nat_tests)
   trains_after c l s w b u i = grind (arith, nat_tests)
 
   pub kept_after : (c : Change) → Legal c r m → Says c p x h → Between r (meaning_after c r m) p x → Kept r m p h
@@ -152,8 +144,8 @@ module _ (r : Row) (m : Meaning) (p : Place) (x : Step) (h : History) where
   kept_after c l w b k = record {
     sound = sound_after c r m l k.sound;
     uses = uses_after c l k.sound w k.uses;
-    line_clear = line_clear_after c l k.sound w b k.uses k.line_clear;
-    trains = trains_after c l k.sound w b k.uses k.trains;
+    line_clear = line_clear_after c l k.sound w b k.uses.calls k.line_clear;
+    trains = trains_after c l k.sound w b k.uses.calls k.trains;
   }
 
   still_line_clear : Sound r m → Says unchanged p x h → Between r m p x → KeptLineClear r p h → KeptLineClear r p (h ▸ x)
@@ -165,7 +157,7 @@ module _ (r : Row) (m : Meaning) (p : Place) (x : Step) (h : History) where
     sound = k.sound;
     uses = uses_after unchanged (refl, refl, refl) k.sound w k.uses;
     line_clear = still_line_clear k.sound w b k.line_clear;
-    trains = trains_after unchanged (refl, refl, refl) k.sound w b k.uses k.trains;
+    trains = trains_after unchanged (refl, refl, refl) k.sound w b k.uses.calls k.trains;
   }
 
 pub kept_fresh : (p : Place) → Kept fresh_row fresh p start
