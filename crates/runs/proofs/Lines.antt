@@ -1,5 +1,5 @@
 -- What every run keeps of one line, over each change that can happen to it. Assumes nothing.
-use Rattle.std.proofs.Common.{◌≡◌, ℕ, ◌+◌, ◌-◌, ◌<◌, ◌≤◌, Bool, true, false, cond, ltb, Some, None, refl, arith}
+use Rattle.std.proofs.Common.{◌≡◌, ℕ, ◌+◌, ◌-◌, ◌<◌, ◌≤◌, Bool, true, false, cond, ltb, Some, None, refl, subst, arith}
 use Rattle.std.proofs.lemmas.Bool.Decides.{Decides-at, nat_tests}
 use Rattle.detector.specs.Meaning.{Meaning, fresh, reading_of, reads_clear}
 use Rattle.detector.specs.declared.Action.TheVariants.{Reset}
@@ -30,15 +30,6 @@ meaning_after c r m = told (action_of c r) m
 abbrev pub settled_after : Change → Row → Meaning → Row
 settled_after c r m = settled (reading_of (meaning_after c r m)) (row_after c r)
 
--- after a call for a resumption, or for a reset, that is the second of two or not
-abbrev resumed : Bool → Station → Row → Row
-resumed done a r =
-    with_calls (record { reset = r.calls.reset; resume = cond done None (Some a) })
-    (with_signals (resumed_if done r.signals) (with_permission (cond done (given Closed Nothing) r.permission) r))
-
-abbrev restored_if : Bool → Meaning → Meaning
-restored_if done m = told (cond done (Some Reset) None) m
-
 -- The record by itself.
 
 pub record SoundPermission (g : Permission) : Type 0 where
@@ -68,15 +59,16 @@ module _ (r : Row) (m : Meaning) where
 settled_signals : (x : Reading) (r : Row) → SoundSignals r → SoundSignals (settled x r)
 settled_signals x r o = grind (arith, nat_tests)
 
-settled_reads_clear : (m : Meaning) (r : Row) → is_off (settled (reading_of m) r).signals.stop ≡ true → reads_clear m ≡ true
-settled_reads_clear m r e = grind (arith, nat_tests)
-
 sound_after : (c : Change) (r : Row) (m : Meaning) → Legal c r m → Sound r m → Sound (settled_after c r m) (meaning_after c r m)
 sound_after c r m l s = record {
   permission = permission_after r m c l.0 s.permission;
   signals = settled_signals (reading_of (meaning_after c r m)) (row_after c r) (signals_after r m c l s.permission s.signals);
-  off_reads_clear = settled_reads_clear (meaning_after c r m) (row_after c r);
+  off_reads_clear = grind (arith, nat_tests);
 }
+
+-- the signals of a sound record have followed the detector
+settled_before : (r : Row) (m : Meaning) → Sound r m → settled (reading_of m) r ≡ r
+settled_before r m s = grind (arith, nat_tests)
 
 -- The record and the history.
 
@@ -148,33 +140,19 @@ module _ (r : Row) (m : Meaning) (p : Place) (x : Step) (h : History) where
     trains = trains_after c l k.sound w b k.uses.calls k.trains;
   }
 
-  still_line_clear : Sound r m → Says unchanged p x h → Between r m p x → KeptLineClear r p h → KeptLineClear r p (h ▸ x)
-  still_line_clear s w b i = grind (arith, nat_tests)
-
   -- over a refused event, or one elsewhere
   pub kept_still : Says unchanged p x h → Between r m p x → Kept r m p h → Kept r m p (h ▸ x)
-  kept_still w b k = record {
-    sound = k.sound;
-    uses = uses_after unchanged (refl, refl, refl) k.sound w k.uses;
-    line_clear = still_line_clear k.sound w b k.line_clear;
-    trains = trains_after unchanged (refl, refl, refl) k.sound w b k.uses.calls k.trains;
-  }
+  kept_still w b k = subst (λ (s : Row). Kept s m p (h ▸ x)) (settled_before r m k.sound) (kept_after unchanged (refl, refl, refl) w b k)
 
 pub kept_fresh : (p : Place) → Kept fresh_row fresh p start
 kept_fresh p = record { sound = grind (arith, nat_tests); uses = grind (arith, nat_tests); line_clear = grind (arith, nat_tests); trains = grind (arith, nat_tests) }
 
 -- The laws.
 
-one_unused : (r : Row) → unused r ≤ 1
-one_unused r = grind (arith, nat_tests)
-
-one_occupant : (r : Row) (m : Meaning) (p : Place) (h : History) → Kept r m p h → orderly p h ≡ true → occupants p h ≤ 1
-one_occupant r m p h k o = grind (arith, nat_tests)
-
 pub lawful : (r : Row) (m : Meaning) (p : Place) (h : History) → Kept r m p h → Lawful p r h
 lawful r m p h k = record {
   account = k.line_clear.account;
-  one_unused = one_unused r;
+  one_unused = grind (arith, nat_tests);
   signal = Decides-at (is_off r.signals.stop) (reversal_stands p h) k.line_clear.signal (tellings_agree p h);
-  occupancy = one_occupant r m p h k;
+  occupancy = λ o. grind (arith, nat_tests);
 }
