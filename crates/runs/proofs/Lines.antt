@@ -145,7 +145,7 @@ module _ (r : Row) (m : Meaning) (p : Place) (x : Step) (h : History) where
   kept_still w b k = subst (λ (s : Row). Kept s m p (h ▸ x)) (settled_before r m k.sound) (kept_after unchanged (refl, refl, refl) w b k)
 
 pub kept_fresh : (p : Place) → Kept fresh_row fresh p start
-kept_fresh p = record { sound = grind (arith, nat_tests); uses = grind (arith, nat_tests); line_clear = grind (arith, nat_tests); trains = grind (arith, nat_tests) }
+kept_fresh p = grind (arith, nat_tests)
 
 -- The laws.
 
