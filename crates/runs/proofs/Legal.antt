@@ -82,26 +82,9 @@ held (n ∷ ns) e = let parts : (n.0 ≡ true) × (checked ns ≡ Ok tt) = grind
 -- On one line.
 
 module _ (r : Row) (m : Meaning) where
-  sending_legal : (c : Code) (x : Role) (turned : Bool) → Holds (code_needs c x turned (reading_of m) r) → Legal (sending_makes c x) r m
-  sending_legal code.TrainOut x turned k = grind (arith, nat_tests)
-  sending_legal c x turned k = grind (arith, nat_tests)
-
   acknowledging_legal : (c : Code) (x : Role) (y : Consent) (t : Turn) → Holds (acknowledge_needs c x y t (reading_of m) r) → Legal (acknowledging_makes c x y) r m
   acknowledging_legal code.ObstructionRemoved Receiving consent.Given t k = (refl, refl, refl)
   acknowledging_legal c x y t k = grind (arith, nat_tests)
-
-  stop_legal : (q : Position) → Holds (stop_control_needs q (reading_of m) r) → Legal (stop_control_makes q) r m
-  stop_legal Reversed k = grind (arith, nat_tests)
-  stop_legal q k = (refl, refl, refl)
-
-  entering_legal : (k : ℕ) → Legal (entering_makes k r) r m
-  entering_legal k = grind (arith, nat_tests)
-
-  leaving_legal : (k : ℕ) → Legal (leaving_makes k r) r m
-  leaving_legal k = grind (arith, nat_tests)
-
-  resume_legal : (a : Station) → Holds (resume_needs a (reading_of m) r) → Legal (resume_called a) r m
-  resume_legal a k = grind (arith, nat_tests)
 
 -- On both lines of a section.
 
@@ -116,26 +99,17 @@ module _ (v : SectionState) where
   seen Up = refl
   seen Down = refl
 
-  named_legal : (l n : Direction) (own beside : Change) → Legal own (row n) (detector n) → Legal beside (row l) (detector l)
-      → Legal (on_or_beside l n own beside) (row l) (detector l)
-  named_legal Up Up own beside k j = k
-  named_legal Down Down own beside k j = k
-  named_legal l n own beside k j = j
-
   line_legal : (l n : Direction) (own : Change) → Legal own (row n) (detector n) → Legal (on_line l n own) (row l) (detector l)
-  line_legal l n own k = named_legal l n own unchanged k (refl, refl, refl)
+  line_legal Up Up own k = k
+  line_legal Down Down own k = k
+  line_legal l n own k = (refl, refl, refl)
 
   pending_legal : (l : Direction) (b : Bell) (y : Consent) (t : Turn) → Holds (pending_needs b y t (state_readings v) v.section) → Legal (pending_makes b y l) (row l) (detector l)
   pending_legal l (Pending caller n c) y t k = line_legal l n _ (acknowledging_legal (row n) (detector n) c (role_of n caller) y t (rw (seen n) at k))
   pending_legal l b y t k = (refl, refl, refl)
 
   pub legal : (l : Direction) (e : Event) → Holds (state_needs v e) → Legal (change_on l v.section e) (row l) (detector l)
-  legal l (event.Send n a c t) k = line_legal l n _ (sending_legal (row n) (detector n) c (role_of n a) _ (rw (seen n) at k.1.1))
+  legal Up (event.Send Up a code.TrainOut t) k = grind (arith, nat_tests)
   legal l (event.Acknowledge a y t) k = pending_legal l v.section.bell y t k.1
-  legal l (event.StopControl n q) k = line_legal l n _ (stop_legal (row n) (detector n) q (rw (seen n) at k.1))
-  legal l (event.Enters n axles) k = line_legal l n _ (entering_legal (row n) (detector n) axles)
-  legal l (event.Leave n axles) k = named_legal l n _ _ (leaving_legal (row n) (detector n) axles) (grind arith)
-  legal l (event.TrolleyStarts n) k = line_legal l n trolley_started (k.1.1.0, refl, refl)
-  legal l (event.TrolleyEnds n e) k = line_legal l n (trolley_ended e) (k.1.0, refl, refl)
-  legal l (event.Resume n a) k = line_legal l n _ (resume_legal (row n) (detector n) a (rw (seen n) at k.1))
-  legal l e k = grind arith
+  legal Up (event.StopControl n Reversed) k = grind (arith, nat_tests)
+  legal l e k = grind (arith, nat_tests)
