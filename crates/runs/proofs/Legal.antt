@@ -79,37 +79,22 @@ pub held : (ns : Needs) → checked ns ≡ Ok tt → Holds ns
 held [] e = tt
 held (n ∷ ns) e = let parts : (n.0 ≡ true) × (checked ns ≡ Ok tt) = grind arith in (parts.0, held ns parts.1)
 
--- On one line.
+-- In what follows the last clause of a proof stands for each case that no clause above it takes; those above it tell apart
+-- the lines, codes and positions.
 
-module _ (r : Row) (m : Meaning) where
-  acknowledging_legal : (c : Code) (x : Role) (y : Consent) (t : Turn) → Holds (acknowledge_needs c x y t (reading_of m) r) → Legal (acknowledging_makes c x y) r m
-  acknowledging_legal code.ObstructionRemoved Receiving consent.Given t k = (refl, refl, refl)
-  acknowledging_legal c x y t k = grind (arith, nat_tests)
+acknowledging_legal : (r : Row) (m : Meaning) (c : Code) (x : Role) (y : Consent) (t : Turn)
+    → Holds (acknowledge_needs c x y t (reading_of m) r) → Legal (acknowledging_makes c x y) r m
+acknowledging_legal r m code.ObstructionRemoved Receiving consent.Given t k = (refl, refl, refl)
+acknowledging_legal r m c x y t k = grind (arith, nat_tests)
 
--- On both lines of a section.
+pending_legal : (v : SectionState) (l : Direction) (b : Bell) (y : Consent) (t : Turn)
+    → Holds (pending_needs b y t (state_readings v) v.section) → Legal (pending_makes b y l) (row_of l v.section) (detector_on l v)
+pending_legal v Up (Pending caller Up c) y t k = acknowledging_legal v.section.lines.up v.up c (role_of Up caller) y t k
+pending_legal v Down (Pending caller Down c) y t k = acknowledging_legal v.section.lines.down v.down c (role_of Down caller) y t k
+pending_legal v l b y t k = (refl, refl, refl)
 
-module _ (v : SectionState) where
-  abbrev row : Direction → Row
-  row l = row_of l v.section
-
-  abbrev detector : Direction → Meaning
-  detector l = detector_on l v
-
-  seen : (n : Direction) → on n (state_readings v) ≡ reading_of (detector n)
-  seen Up = refl
-  seen Down = refl
-
-  line_legal : (l n : Direction) (own : Change) → Legal own (row n) (detector n) → Legal (on_line l n own) (row l) (detector l)
-  line_legal Up Up own k = k
-  line_legal Down Down own k = k
-  line_legal l n own k = (refl, refl, refl)
-
-  pending_legal : (l : Direction) (b : Bell) (y : Consent) (t : Turn) → Holds (pending_needs b y t (state_readings v) v.section) → Legal (pending_makes b y l) (row l) (detector l)
-  pending_legal l (Pending caller n c) y t k = line_legal l n _ (acknowledging_legal (row n) (detector n) c (role_of n caller) y t (rw (seen n) at k))
-  pending_legal l b y t k = (refl, refl, refl)
-
-  pub legal : (l : Direction) (e : Event) → Holds (state_needs v e) → Legal (change_on l v.section e) (row l) (detector l)
-  legal Up (event.Send Up a code.TrainOut t) k = grind (arith, nat_tests)
-  legal l (event.Acknowledge a y t) k = pending_legal l v.section.bell y t k.1
-  legal Up (event.StopControl n Reversed) k = grind (arith, nat_tests)
-  legal l e k = grind (arith, nat_tests)
+pub legal : (v : SectionState) (l : Direction) (e : Event) → Holds (state_needs v e) → Legal (change_on l v.section e) (row_of l v.section) (detector_on l v)
+legal v l (event.Acknowledge a y t) k = pending_legal v l v.section.bell y t k.1
+legal v Up (event.Send Up a code.TrainOut t) k = grind (arith, nat_tests)
+legal v Up (event.StopControl n Reversed) k = grind (arith, nat_tests)
+legal v l e k = grind (arith, nat_tests)

@@ -13,6 +13,7 @@ use Rattle.events.specs.declared.field.Direction.{Direction}
 use Rattle.events.specs.declared.field.Direction.TheVariants.{Up, Down}
 use Rattle.events.specs.declared.field.Kind.TheVariants as kind
 use Rattle.line.specs.Changes.{unchanged}
+use Rattle.std.proofs.lemmas.Bool.Decides.{nat_tests}
 use Rattle.section.specs.Sections.{change_on, outcome, row_of}
 use Rattle.section.specs.States.{SectionState, detector_on, fresh_state, state_after, state_needs}
 use Rattle.section.specs.declared.section.Section.{Section}
@@ -82,6 +83,10 @@ module _ (i j : ℕ) (e : Event) (before after : BenchState) (h : History) (here
 
 -- An event that leaves the section as it was.
 
+unsent_refused : (i : ℕ) (r : Refusal) (e : SectionEvent) (b : BenchState) (h : History)
+    → last_send i (h ▸ record { event = e; before = b; answer = Err r; after = b }) ≡ last_send i h
+unsent_refused i r e b h = grind (arith, nat_tests)
+
 module _ (i : ℕ) (x : Step) (h : History) (became : section_at i x.after ≡ section_at i x.before) where
   abbrev stood : SectionState
   stood = section_at i x.before
@@ -95,17 +100,7 @@ module _ (i : ℕ) (x : Step) (h : History) (became : section_at i x.after ≡ s
   pub safe_elsewhere : eqb x.event.section i ≡ false → Safe i stood h → Safe i stood (h ▸ x)
   safe_elsewhere away safe = safe_still (rw away refl) (λ l. says_nothing_elsewhere (line_of i l) x h away) safe
 
--- the number of a refusal is that of no other answer
-apart : (r : Refusal) → (eqb (refusal_number r) 0 ≡ false) × (eqb (refusal_number r) 90 ≡ false) × (eqb (refusal_number r) 91 ≡ false)
-apart r = grind arith
-
-unsent : {A : Type 0} (a b : Bool) (new old : A) → cond (a && (b && false)) new old ≡ old
-unsent a b new old = grind arith
-
 pub safe_refused : (i : ℕ) (r : Refusal) (e : SectionEvent) (b : BenchState) (h : History) → Safe i (section_at i b) h
     → Safe i (section_at i b) (h ▸ record { event = e; before = b; answer = Err r; after = b })
 safe_refused i r e b h safe =
-    let x : Step = record { event = e; before = b; answer = Err r; after = b } in
-    let a = apart r in
-    safe_still i x h refl (rw a.0 (unsent (eqb e.section i) (is_kind kind.Send e.event) (fields_in e.event) (last_send i h)))
-    (λ l. says_nothing_refused (line_of i l) x h a.0 a.1 a.2) safe
+    safe_still i (record { event = e; before = b; answer = Err r; after = b }) h refl (unsent_refused i r e b h) (λ l. says_nothing_refused (line_of i l) r e b h) safe

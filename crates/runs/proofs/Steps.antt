@@ -1,9 +1,12 @@
 -- What a step says of a line: that which the rules made of it, and nothing where it is refused or elsewhere.
 -- Assumes nothing.
-use Rattle.std.proofs.Common.{◌≡◌, ℕ, Bool, true, false, cond, eqb, Ok, List, get_or, refl, subst, arith}
+use Rattle.std.proofs.Common.{◌≡◌, ℕ, Bool, true, false, cond, eqb, Ok, Err, List, get_or, refl, subst, arith}
 use Rattle.std.proofs.lemmas.Bool.{both_ways}
 use Rattle.std.proofs.lemmas.Bool.Decides.{nat_tests}
 use Rattle.answer.specs.declared.Outcome.{Outcome}
+use Rattle.answer.specs.declared.Refusal.{Refusal}
+use Rattle.answer.specs.declared.Refusal.TheVariants as refusal
+use Rattle.events.specs.declared.event.SectionEvent.{SectionEvent}
 use Rattle.answer.specs.declared.Outcome.TheVariants.{Accepted, PassedAtOn, LeftUnexpected}
 use Rattle.bell.specs.Bells.{bell_ready}
 use Rattle.bell.specs.declared.Bell.{Bell}
@@ -38,9 +41,11 @@ pub says_nothing_elsewhere : (p : Place) (x : Step) (h : History) → in_section
 unfolding words
 says_nothing_elsewhere p x h away = grind (arith, nat_tests)
 
-pub says_nothing_refused : (p : Place) (x : Step) (h : History) → answered 0 x ≡ false → answered 90 x ≡ false → answered 91 x ≡ false → Says unchanged p x h
+pub says_nothing_refused : (p : Place) (r : Refusal) (e : SectionEvent) (b : BenchState) (h : History)
+    → Says unchanged p (record { event = e; before = b; answer = Err r; after = b }) h
 unfolding words
-says_nothing_refused p x h a b c = grind (arith, nat_tests)
+says_nothing_refused p refusal.OutsideValues e b h = grind (arith, nat_tests)
+says_nothing_refused p r e b h = grind (arith, nat_tests)
 
 -- a code that is pending is the last that was sent
 abbrev pub Heard : Bell → List ℕ → Type 0
