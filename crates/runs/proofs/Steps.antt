@@ -44,7 +44,6 @@ says_nothing_elsewhere p x h away = grind (arith, nat_tests)
 pub says_nothing_refused : (p : Place) (r : Refusal) (e : SectionEvent) (b : BenchState) (h : History)
     → Says unchanged p (record { event = e; before = b; answer = Err r; after = b }) h
 unfolding words
-says_nothing_refused p refusal.OutsideValues e b h = grind (arith, nat_tests)
 says_nothing_refused p r e b h = grind (arith, nat_tests)
 
 -- a code that is pending is the last that was sent
