@@ -12,42 +12,16 @@ use Rattle.runs.specs.Histories.{History, Step, ◌▸◌}
 use Rattle.runs.proofs.Legal.{Holds, held}
 use Rattle.runs.proofs.Sections.{Safe, safe_after, safe_elsewhere, safe_refused}
 
--- a refused event leaves the bench as it was
-pub unchanged_where_refused : (b : BenchState) (e : SectionEvent) (r : Refusal) → verdict_at b e ≡ Err r → bench_after b e ≡ b
-unchanged_where_refused b e r v = rw v refl
+-- the section of the event after it, and the bench with it, where the event is not refused
+abbrev section_worked : BenchState → SectionEvent → SectionState
+section_worked b e = state_after (section_at e.section b) e.event
 
-module _ (b : BenchState) (e : SectionEvent) where
-  -- the section of the event after it, and the bench with it, where the event is not refused
-  abbrev pub section_worked : SectionState
-  section_worked = state_after (section_at e.section b) e.event
-
-  abbrev pub bench_worked : BenchState
-  bench_worked = set b e.section section_worked
-
-  others_unworked : (i : ℕ) → eqb e.section i ≡ false → section_at i bench_worked ≡ section_at i b
-  others_unworked i away = get_or-set_other b e.section i section_worked no_section (λ same. eqb-false e.section i away (sym same))
-
-  -- an event leaves the other sections as they were
-  pub others_unchanged : (i : ℕ) → eqb e.section i ≡ false → section_at i (bench_after b e) ≡ section_at i b
-  others_unchanged i away = go (verdict_at b e)
-    where
-      go : (v : Verdict) → section_at i (unless_refused v bench_worked b) ≡ section_at i b
-      go (Ok _) = others_unworked i away
-      go (Err r) = refl
-
-  -- and as many as they were
-  pub length_bench_after : length (bench_after b e) ≡ length b
-  length_bench_after = go (verdict_at b e)
-    where
-      go : (v : Verdict) → length (unless_refused v bench_worked b) ≡ length b
-      go (Ok _) = length-set b e.section section_worked
-      go (Err r) = refl
-
--- Every section stays safe.
+abbrev bench_worked : BenchState → SectionEvent → BenchState
+bench_worked b e = set b e.section (section_worked b e)
 
 module _ (b : BenchState) (e : SectionEvent) (h : History) where
   -- the step of the event by its verdict
-  abbrev pub judged_step : Verdict → Step
+  abbrev judged_step : Verdict → Step
   judged_step v = record {
     event = e;
     before = b;
@@ -61,15 +35,14 @@ module _ (b : BenchState) (e : SectionEvent) (h : History) where
   worked_safe : Holds (bench_needs b e) → eqb e.section e.section ≡ true → Safe e.section (section_at e.section b) h → SafeAfter e.section (Ok tt)
   worked_safe ok here safe =
       let became = get_or-set_same b e.section (section_worked b e) no_section (ltb-true e.section (length b) ok.1.0) in
-      subst (λ (v : SectionState). Safe e.section v (h ▸ judged_step (Ok tt))) (sym became)
-      (safe_after e.section e.section e.event b (bench_worked b e) h here ok.1.1 became safe)
+      rw became (safe_after e.section e.section e.event b (bench_worked b e) h here ok.1.1 became safe)
 
   accepted_safe : (i : ℕ) → Holds (bench_needs b e) → Safe i (section_at i b) h → (q : Bool) → eqb e.section i ≡ q → SafeAfter i (Ok tt)
   accepted_safe i ok safe true here =
       subst (λ (k : ℕ). eqb e.section k ≡ true → Safe k (section_at k b) h → SafeAfter k (Ok tt)) (eqb-true e.section i here) (worked_safe ok) here safe
   accepted_safe i ok safe false away =
-      let became = others_unworked b e i away in
-      subst (λ (v : SectionState). Safe i v (h ▸ judged_step (Ok tt))) (sym became) (safe_elsewhere i (judged_step (Ok tt)) h became away safe)
+      let became = get_or-set_other b e.section i (section_worked b e) no_section (λ same. eqb-false e.section i away (sym same)) in
+      rw became (safe_elsewhere i (judged_step (Ok tt)) h became away safe)
 
   pub safe_step : (i : ℕ) → Safe i (section_at i b) h → SafeAfter i (verdict_at b e)
   safe_step i safe = go (verdict_at b e) refl

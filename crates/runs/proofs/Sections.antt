@@ -35,11 +35,7 @@ pub record Safe (i : ℕ) (v : SectionState) (h : History) : Type 0 where
   pub lines : (l : Direction) → Kept (row_of l v.section) (detector_on l v) (line_of i l) h
 
 pub safe_fresh : (i : ℕ) → Safe i fresh_state start
-safe_fresh i = record { heard = tt; lines = lines }
-  where
-    lines : (l : Direction) → Kept (row_of l fresh_state.section) (detector_on l fresh_state) (line_of i l) start
-    lines Up = kept_fresh (line_of i Up)
-    lines Down = kept_fresh (line_of i Down)
+safe_fresh i = record { heard = tt; lines = elim [ Up ↦ kept_fresh (line_of i Up) | Down ↦ kept_fresh (line_of i Down) ] }
 
 -- a step is from the line as it was to the detector that it leaves
 between : (p : Place) (x : Step) (v : SectionState) → section_at p.section x.after ≡ v → Between (row_at p x.before) (detector_on p.line v) p x
@@ -51,12 +47,8 @@ between p x v became = record { off = refl; clear = rw became refl }
 -- the bell keeps what was sent
 heard_after : (b : Bell) (sent : List ℕ) (s : Section) (e : Event) → Heard b sent
     → Heard (bell_after b e) (cond (is_kind kind.Send e && eqb (answer_number (Ok (outcome s e))) 0) (fields_in e) sent)
-heard_after b sent s (event.Call a) o = tt
-heard_after b sent s (event.Answer a) o = tt
-heard_after b sent s (event.Send l a c t) o = (refl, refl, refl)
-heard_after b sent s (event.Acknowledge a y t) o = tt
-heard_after b sent s (event.Error a) o = tt
-heard_after b sent s e o = o
+heard_after b sent s (event.Call a) o = grind arith
+heard_after b sent s e o = grind arith
 
 module _ (i j : ℕ) (e : Event) (before after : BenchState) (h : History) (here : eqb j i ≡ true) where
   abbrev state : SectionState
@@ -83,10 +75,6 @@ module _ (i j : ℕ) (e : Event) (before after : BenchState) (h : History) (here
 
 -- An event that leaves the section as it was.
 
-unsent_refused : (i : ℕ) (r : Refusal) (e : SectionEvent) (b : BenchState) (h : History)
-    → last_send i (h ▸ record { event = e; before = b; answer = Err r; after = b }) ≡ last_send i h
-unsent_refused i r e b h = grind (arith, nat_tests)
-
 module _ (i : ℕ) (x : Step) (h : History) (became : section_at i x.after ≡ section_at i x.before) where
   abbrev stood : SectionState
   stood = section_at i x.before
@@ -103,4 +91,4 @@ module _ (i : ℕ) (x : Step) (h : History) (became : section_at i x.after ≡ s
 pub safe_refused : (i : ℕ) (r : Refusal) (e : SectionEvent) (b : BenchState) (h : History) → Safe i (section_at i b) h
     → Safe i (section_at i b) (h ▸ record { event = e; before = b; answer = Err r; after = b })
 safe_refused i r e b h safe =
-    safe_still i (record { event = e; before = b; answer = Err r; after = b }) h refl (unsent_refused i r e b h) (λ l. says_nothing_refused (line_of i l) r e b h) safe
+    safe_still i (record { event = e; before = b; answer = Err r; after = b }) h refl (grind (arith, nat_tests)) (λ l. says_nothing_refused (line_of i l) r e b h) safe
