@@ -37,9 +37,7 @@ pub record SoundPermission (g : Permission) : Type 0 where
   pub ended_is_used : end_is NotEnded g ≡ false → g.used ≡ true
 
 pub record SoundSignals (r : Row) : Type 0 where
-  pub off_is_clear : is_off r.signals.stop ≡ true → needle_is Clear r.permission ≡ true
   pub off_is_unused : is_off r.signals.stop ≡ true → unused_train r.permission ≡ true
-  pub off_is_reversed : is_off r.signals.stop ≡ true → is_reversed r.signals.stop_control ≡ true
   pub off_is_worked : is_off r.signals.stop ≡ true → r.signals.suspended ≡ false
 
 pub record Sound (r : Row) (m : Meaning) : Type 0 where
