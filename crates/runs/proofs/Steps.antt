@@ -72,15 +72,15 @@ module _ (i j : ℕ) (l : Direction) (before after : BenchState) (h : History) (
       → Said (pending_makes b y l) (event.Acknowledge a y t) Accepted
   unfolding words
   acknowledging_says (Pending caller m c) a consent.Withheld t _ _ = grind (arith, nat_tests)
+  acknowledging_says (Pending caller m code.TrainOut) a y t _ o = grind (arith, nat_tests)
   acknowledging_says (Pending caller Up code.ObstructionRemoved) a y t _ o = grind (arith, nat_tests)
-  acknowledging_says (Pending caller Down code.ObstructionRemoved) a y t _ o = grind (arith, nat_tests)
   acknowledging_says (Pending caller m c) a y t _ o = grind (arith, nat_tests)
   acknowledging_says b a y t r _ = grind arith
 
   pub says_accepted : (s : Section) (e : Event) → bell_ready s.bell e ≡ true → Heard s.bell (last_send i h) → Said (change_on l s e) e (outcome s e)
   unfolding words
+  says_accepted s (event.Send m a code.TrainOut t) _ _ = grind (arith, nat_tests)
   says_accepted s (event.Send Up a code.ObstructionRemoved t) _ _ = grind (arith, nat_tests)
-  says_accepted s (event.Send Down a code.ObstructionRemoved t) _ _ = grind (arith, nat_tests)
   says_accepted s (event.Acknowledge a y t) r o = acknowledging_says s.bell a y t r o
   says_accepted s (event.StopControl m Reversed) _ _ = grind (arith, nat_tests)
   says_accepted s (event.Enters m k) _ _ = entering_says m k (is_off (row_of m s).signals.stop)
