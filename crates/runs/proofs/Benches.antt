@@ -1,13 +1,12 @@
 -- What an event leaves of the bench as it was, and that every section stays safe over it. Assumes nothing.
-use Rattle.std.proofs.Common.{◌≡◌, ℕ, Bool, true, false, eqb, ◌⊎◌, length, set, Ok, Err, sym, refl, subst, inl, inr, length-set}
+use Rattle.std.proofs.Common.{◌≡◌, ℕ, Bool, true, false, length, slice_set, Ok, Err, sym, refl, subst, ◌==◌}
 use Rattle.std.proofs.lemmas.List.{get_or-set_other, get_or-set_same}
 use Rattle.std.proofs.lemmas.Bool.{eqb-false, eqb-true, ltb-true}
 use Rattle.answer.specs.Answers.{Verdict, given_that, unless_refused}
-use Rattle.answer.specs.declared.Refusal.{Refusal}
 use Rattle.events.specs.declared.event.SectionEvent.{SectionEvent}
 use Rattle.section.specs.Sections.{outcome}
 use Rattle.section.specs.States.{SectionState, state_after}
-use Rattle.runs.specs.Benches.{BenchState, bench_after, bench_needs, no_section, section_at, verdict_at}
+use Rattle.runs.specs.Benches.{BenchState, bench_needs, no_section, section_at, verdict_at}
 use Rattle.runs.specs.Histories.{History, Step, ◌▸◌}
 use Rattle.runs.proofs.Legal.{Holds, held}
 use Rattle.runs.proofs.Sections.{Safe, safe_after, safe_elsewhere, safe_refused}
@@ -17,7 +16,7 @@ abbrev section_worked : BenchState → SectionEvent → SectionState
 section_worked b e = state_after (section_at e.section b) e.event
 
 abbrev bench_worked : BenchState → SectionEvent → BenchState
-bench_worked b e = set b e.section (section_worked b e)
+bench_worked b e = slice_set b e.section (section_worked b e)
 
 module _ (b : BenchState) (e : SectionEvent) (h : History) where
   -- the step of the event by its verdict
@@ -32,14 +31,14 @@ module _ (b : BenchState) (e : SectionEvent) (h : History) where
   abbrev SafeAfter : ℕ → Verdict → Type 0
   SafeAfter i v = Safe i (section_at i (unless_refused v (bench_worked b e) b)) (h ▸ judged_step v)
 
-  worked_safe : Holds (bench_needs b e) → eqb e.section e.section ≡ true → Safe e.section (section_at e.section b) h → SafeAfter e.section (Ok tt)
+  worked_safe : Holds (bench_needs b e) → (e.section == e.section) ≡ true → Safe e.section (section_at e.section b) h → SafeAfter e.section (Ok tt)
   worked_safe ok here safe =
       let became = get_or-set_same b e.section (section_worked b e) no_section (ltb-true e.section (length b) ok.1.0) in
       rw became (safe_after e.section e.section e.event b (bench_worked b e) h here ok.1.1 became safe)
 
-  accepted_safe : (i : ℕ) → Holds (bench_needs b e) → Safe i (section_at i b) h → (q : Bool) → eqb e.section i ≡ q → SafeAfter i (Ok tt)
+  accepted_safe : (i : ℕ) → Holds (bench_needs b e) → Safe i (section_at i b) h → (q : Bool) → (e.section == i) ≡ q → SafeAfter i (Ok tt)
   accepted_safe i ok safe true here =
-      subst (λ (k : ℕ). eqb e.section k ≡ true → Safe k (section_at k b) h → SafeAfter k (Ok tt)) (eqb-true e.section i here) (worked_safe ok) here safe
+      subst (λ (k : ℕ). (e.section == k) ≡ true → Safe k (section_at k b) h → SafeAfter k (Ok tt)) (eqb-true e.section i here) (worked_safe ok) here safe
   accepted_safe i ok safe false away =
       let became = get_or-set_other b e.section i (section_worked b e) no_section (λ same. eqb-false e.section i away (sym same)) in
       rw became (safe_elsewhere i (judged_step (Ok tt)) h became away safe)
@@ -48,5 +47,5 @@ module _ (b : BenchState) (e : SectionEvent) (h : History) where
   safe_step i safe = go (verdict_at b e) refl
     where
       go : (v : Verdict) → verdict_at b e ≡ v → SafeAfter i v
-      go (Ok _) ok = accepted_safe i (held (bench_needs b e) ok) safe (eqb e.section i) refl
+      go (Ok _) ok = accepted_safe i (held (bench_needs b e) ok) safe (e.section == i) refl
       go (Err r) refused = safe_refused i r e b h safe

@@ -1,11 +1,10 @@
 -- What the rules guarantee before each change of a line, since all that its event needs holds. Assumes nothing.
-use Rattle.std.proofs.Common.{◌≡◌, ℕ, Bool, true, false, cond, not, ◌&&◌, ◌||◌, ◌⊎◌, [], ◌∷◌, Ok, Err, refl, inl, inr, arith}
+use Rattle.std.proofs.Common.{◌≡◌, Bool, true, not, ◌&&◌, ◌||◌, [], ◌∷◌, Ok, refl, arith}
 use Rattle.std.proofs.lemmas.Bool.Decides.{nat_tests}
 use Rattle.answer.specs.Answers.{Needs, checked}
 use Rattle.bell.specs.declared.Bell.{Bell}
-use Rattle.bell.specs.declared.Bell.TheVariants.{Idle, Called, Attentive, Pending}
+use Rattle.bell.specs.declared.Bell.TheVariants.{Pending}
 use Rattle.detector.specs.Meaning.{Meaning, reading_of, reads_clear}
-use Rattle.events.specs.Tests.{turn_is}
 use Rattle.events.specs.declared.event.Event.{Event}
 use Rattle.events.specs.declared.event.Event.TheVariants as event
 use Rattle.events.specs.declared.field.Code.{Code}
@@ -14,14 +13,10 @@ use Rattle.events.specs.declared.field.Consent.{Consent}
 use Rattle.events.specs.declared.field.Consent.TheVariants as consent
 use Rattle.events.specs.declared.field.Direction.{Direction}
 use Rattle.events.specs.declared.field.Direction.TheVariants.{Up, Down}
-use Rattle.events.specs.declared.field.Position.{Position}
-use Rattle.events.specs.declared.field.Position.TheVariants.{Normal, Reversed}
-use Rattle.events.specs.declared.field.Station.{Station}
+use Rattle.events.specs.declared.field.Position.TheVariants.{Reversed}
 use Rattle.events.specs.declared.field.Turn.{Turn}
-use Rattle.events.specs.declared.field.Turn.TheVariants.{Straight}
-use Rattle.line.specs.Changes.{Change, blocked_back, blocked_forward, cancelled, detector_failed, home_moved, left, left_unexpected, passed, passed_at_on, reset_called, resume_called, rolled, stop_put_back, stop_reversed, suspended, train_entering, train_given, train_out, trolley_ended, trolley_given, trolley_started, unblocked, unchanged}
-use Rattle.line.specs.Codes.{acknowledge_needs, acknowledging_makes, code_needs, role_of, sending_makes}
-use Rattle.line.specs.Lines.{entering_makes, leaving_makes, resume_needs, stop_control_makes, stop_control_needs}
+use Rattle.line.specs.Changes.{Change, blocked_back, blocked_forward, cancelled, left, left_unexpected, passed, passed_at_on, resume_called, stop_reversed, train_entering, train_given, train_out, trolley_ended, trolley_given, trolley_started, unblocked}
+use Rattle.line.specs.Codes.{acknowledge_needs, acknowledging_makes, role_of}
 use Rattle.line.specs.Records.{both_normal, clear_for_train, end_is, is_blocked, is_off, needle_is, permit_is, running_trolley, train_or_trolley, unused_trolley, used_train}
 use Rattle.line.specs.declared.role.Role.{Role}
 use Rattle.line.specs.declared.role.Role.TheVariants.{Receiving}
@@ -31,8 +26,7 @@ use Rattle.line.specs.declared.row.Permission.{Permission}
 use Rattle.line.specs.declared.row.Permit.TheVariants.{Trolley}
 use Rattle.line.specs.declared.row.Row.{Row}
 use Rattle.line.specs.declared.row.Signals.{Signals}
-use Rattle.section.specs.PerLines.{on}
-use Rattle.section.specs.Sections.{beside_leaving, change_on, on_line, on_or_beside, pending_makes, pending_needs, row_of}
+use Rattle.section.specs.Sections.{change_on, pending_makes, pending_needs, row_of}
 use Rattle.section.specs.States.{SectionState, detector_on, state_needs, state_readings}
 
 -- What the rules guarantee before a change: of what was permitted, of the signals and of the detector.

@@ -1,16 +1,13 @@
 -- What every run keeps of one line, over each change that can happen to it. Assumes nothing.
-use Rattle.std.proofs.Common.{◌≡◌, ℕ, ◌+◌, ◌-◌, ◌<◌, ◌≤◌, Bool, true, false, cond, ltb, Some, None, refl, subst, arith}
+use Rattle.std.proofs.Common.{◌≡◌, ℕ, ◌+◌, ◌-◌, ◌<◌, true, false, cond, refl, subst, arith, nat_lt}
 use Rattle.std.proofs.lemmas.Bool.Decides.{Decides-at, nat_tests}
 use Rattle.detector.specs.Meaning.{Meaning, fresh, reading_of, reads_clear}
-use Rattle.detector.specs.declared.Action.TheVariants.{Reset}
 use Rattle.detector.specs.declared.Reading.{Reading}
-use Rattle.events.specs.Tests.{is_reversed}
-use Rattle.events.specs.declared.field.Station.{Station}
-use Rattle.line.specs.Changes.{Change, action_of, half_called, resumed_if, row_after, settled, with_calls, with_permission, with_signals, unchanged, train_given, trolley_given, blocked_forward, blocked_back, train_entering, train_out, cancelled, unblocked, stop_reversed, stop_put_back, home_moved, passed, passed_at_on, left, left_unexpected, suspended, trolley_started, trolley_ended, detector_failed, rolled, reset_called, resume_called}
-use Rattle.line.specs.Records.{end_is, fresh_row, given, is_blocked, is_off, needle_is, permit_is, running_trolley, unused_train, used_train}
+use Rattle.line.specs.Changes.{Change, action_of, half_called, row_after, settled, unchanged, reset_called, resume_called}
+use Rattle.line.specs.Records.{end_is, fresh_row, is_blocked, is_off, needle_is, permit_is, running_trolley, unused_train, used_train}
 use Rattle.line.specs.declared.row.Calls.{Calls}
 use Rattle.line.specs.declared.row.End.TheVariants.{NotEnded}
-use Rattle.line.specs.declared.row.Needle.TheVariants.{Closed, Clear}
+use Rattle.line.specs.declared.row.Needle.TheVariants.{Closed}
 use Rattle.line.specs.declared.row.Permission.{Permission}
 use Rattle.line.specs.declared.row.Permit.TheVariants.{Nothing}
 use Rattle.line.specs.declared.row.Row.{Row}
@@ -93,7 +90,7 @@ remaining p start = 0
 remaining p (h ▸ x) = cond (passes p x) (axles x) 0 + (remaining p h - cond (leaves p x) (axles x) 0)
 
 pub record KeptTrains (g : Permission) (m : Meaning) (p : Place) (h : History) : Type 0 where
-  pub one_train : orderly p h ≡ true → (out : ℕ) → trains p out h ≡ one_if (ltb out (remaining p h))
+  pub one_train : orderly p h ≡ true → (out : ℕ) → trains p out h ≡ one_if (nat_lt out (remaining p h))
   pub counted : orderly p h ≡ true → m.failed ≡ false → m.axles ≡ remaining p h
   pub permitted : orderly p h ≡ true → 0 < remaining p h → used_train g ≡ true
 

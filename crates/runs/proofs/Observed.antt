@@ -1,5 +1,5 @@
 -- What the words of the laws say of a step by which one change happens to a line. Assumes nothing.
-use Rattle.std.proofs.Common.{◌≡◌, ℕ, Bool, cond, ◌||◌, eqb, Some, None, Option}
+use Rattle.std.proofs.Common.{◌≡◌, ℕ, Bool, cond, ◌||◌, Some, Option, ◌==◌}
 use Rattle.detector.specs.declared.Action.{Action}
 use Rattle.detector.specs.declared.Action.TheVariants as action
 use Rattle.events.specs.declared.field.Place.TheVariants as place
@@ -37,7 +37,7 @@ change_number (reset_called a) = 21
 change_number (resume_called a) = 22
 
 abbrev pub is : Change → Change → Bool
-is c d = eqb (change_number c) (change_number d)
+is c d = change_number c == change_number d
 
 abbrev pub counts_in : Change → Bool
 counts_in c = is c (passed 0) || is c (passed_at_on 0)

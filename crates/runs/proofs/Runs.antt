@@ -1,12 +1,11 @@
 -- The laws over every run, and what a loop over the events of a run needs. Assumes nothing.
-use Rattle.std.proofs.Common.{◌≡◌, ℕ, ◌<◌, List, [], ◌∷◌, ◌++◌, length, sym, refl, ap, ◌∙◌, subst}
-use lib.ListN.{get_or-replicate, length-replicate}
-use Rattle.answer.specs.Answers.{Answer}
+use Rattle.std.proofs.Common.{◌≡◌, ℕ, ◌<◌, List, [], ◌∷◌, ◌++◌, refl}
+use lib.ListN.{get_or-replicate}
 use Rattle.events.specs.declared.event.SectionEvent.{SectionEvent}
-use Rattle.section.specs.States.{SectionState, detector_on, fresh_state}
+use Rattle.section.specs.States.{detector_on, fresh_state}
 use Rattle.section.specs.declared.face.Entry.{Entry}
 use Rattle.runs.specs.Benches.{BenchState, answer_at, bench_after, fresh_bench, no_section, section_at}
-use Rattle.runs.specs.Histories.{ByTheRules, History, Leads, Step, ◌▸◌, entries_in, entry_of, events_in, start}
+use Rattle.runs.specs.Histories.{ByTheRules, History, Leads, Step, ◌▸◌, entry_of, start}
 use Rattle.runs.specs.Laws.{Laws, row_at}
 use Rattle.runs.specs.Runs.{RunOf}
 use Rattle.runs.proofs.Benches.{safe_step}

@@ -1,8 +1,7 @@
 -- What every run keeps of one section, over an event in it, a refused event and an event elsewhere. Assumes nothing.
-use Rattle.std.proofs.Common.{◌≡◌, ℕ, Bool, true, false, cond, ◌&&◌, eqb, List, refl, Ok, Err, arith}
-use Rattle.answer.specs.Answers.{answer_number, refusal_number}
+use Rattle.std.proofs.Common.{◌≡◌, ℕ, true, false, cond, ◌&&◌, List, refl, Ok, Err, arith, ◌==◌}
+use Rattle.answer.specs.Answers.{answer_number}
 use Rattle.answer.specs.declared.Refusal.{Refusal}
-use Rattle.answer.specs.declared.Refusal.TheVariants as refusal
 use Rattle.bell.specs.Bells.{bell_after}
 use Rattle.bell.specs.declared.Bell.{Bell}
 use Rattle.events.specs.Written.{fields_in, is_kind}
@@ -46,11 +45,11 @@ between p x v became = record { off = refl; clear = rw became refl }
 
 -- the bell keeps what was sent
 heard_after : (b : Bell) (sent : List ℕ) (s : Section) (e : Event) → Heard b sent
-    → Heard (bell_after b e) (cond (is_kind kind.Send e && eqb (answer_number (Ok (outcome s e))) 0) (fields_in e) sent)
+    → Heard (bell_after b e) (cond (is_kind kind.Send e && answer_number (Ok (outcome s e)) == 0) (fields_in e) sent)
 heard_after b sent s (event.Call a) o = grind arith
 heard_after b sent s e o = grind arith
 
-module _ (i j : ℕ) (e : Event) (before after : BenchState) (h : History) (here : eqb j i ≡ true) where
+module _ (i j : ℕ) (e : Event) (before after : BenchState) (h : History) (here : (j == i) ≡ true) where
   abbrev state : SectionState
   state = section_at i before
 
@@ -85,7 +84,7 @@ module _ (i : ℕ) (x : Step) (h : History) (became : section_at i x.after ≡ s
     lines = λ l. kept_still (row_of l stood.section) (detector_on l stood) (line_of i l) x h (says l) (between (line_of i l) x stood became) (safe.lines l);
   }
 
-  pub safe_elsewhere : eqb x.event.section i ≡ false → Safe i stood h → Safe i stood (h ▸ x)
+  pub safe_elsewhere : (x.event.section == i) ≡ false → Safe i stood h → Safe i stood (h ▸ x)
   safe_elsewhere away safe = safe_still (rw away refl) (λ l. says_nothing_elsewhere (line_of i l) x h away) safe
 
 pub safe_refused : (i : ℕ) (r : Refusal) (e : SectionEvent) (b : BenchState) (h : History) → Safe i (section_at i b) h

@@ -1,6 +1,6 @@
 -- The stop signal, told in full and told step by step: the two agree. Assumes nothing.
-use Rattle.std.proofs.Common.{◌≡◌, Bool, true, false, cond, not, ◌&&◌, ◌||◌, Decides, sym, refl, ap, ◌∙◌, subst, arith}
-use Rattle.std.proofs.lemmas.Bool.{and_parts, and_from, both_ways}
+use Rattle.std.proofs.Common.{◌≡◌, Bool, true, false, cond, not, ◌&&◌, ◌||◌, Decides, refl, ◌∙◌, arith}
+use Rattle.std.proofs.lemmas.Bool.{and_parts, and_from}
 use Rattle.std.proofs.Math.Bool.{or-true}
 use Rattle.runs.specs.Histories.{History, Step, ◌▸◌, followed_by, start}
 use Rattle.runs.specs.Laws.{Place, ReversedUnderClear, clear_after, gives_train, passes, puts_back, reverses, spends, suspends, throughout}

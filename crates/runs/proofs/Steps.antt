@@ -1,40 +1,32 @@
 -- What a step says of a line: that which the rules made of it, and nothing where it is refused or elsewhere.
 -- Assumes nothing.
-use Rattle.std.proofs.Common.{◌≡◌, ℕ, Bool, true, false, cond, eqb, Ok, Err, List, get_or, refl, subst, arith}
-use Rattle.std.proofs.lemmas.Bool.{both_ways}
+use Rattle.std.proofs.Common.{◌≡◌, ℕ, Bool, true, false, cond, Ok, Err, List, arith, ◌==◌, slice_index}
 use Rattle.std.proofs.lemmas.Bool.Decides.{nat_tests}
 use Rattle.answer.specs.declared.Outcome.{Outcome}
 use Rattle.answer.specs.declared.Refusal.{Refusal}
-use Rattle.answer.specs.declared.Refusal.TheVariants as refusal
 use Rattle.events.specs.declared.event.SectionEvent.{SectionEvent}
 use Rattle.answer.specs.declared.Outcome.TheVariants.{Accepted, PassedAtOn, LeftUnexpected}
 use Rattle.bell.specs.Bells.{bell_ready}
 use Rattle.bell.specs.declared.Bell.{Bell}
-use Rattle.bell.specs.declared.Bell.TheVariants.{Idle, Called, Attentive, Pending}
+use Rattle.bell.specs.declared.Bell.TheVariants.{Pending}
 use Rattle.events.specs.Fields.{code_number, direction_number, station_number}
-use Rattle.events.specs.Tests.{direction_is}
-use Rattle.events.specs.Written.{is_kind}
 use Rattle.events.specs.declared.event.Event.{Event}
 use Rattle.events.specs.declared.event.Event.TheVariants as event
-use Rattle.events.specs.declared.field.Code.{Code}
 use Rattle.events.specs.declared.field.Code.TheVariants as code
 use Rattle.events.specs.declared.field.Consent.{Consent}
 use Rattle.events.specs.declared.field.Consent.TheVariants as consent
 use Rattle.events.specs.declared.field.Direction.{Direction}
-use Rattle.events.specs.declared.field.Direction.TheVariants.{Up, Down}
-use Rattle.events.specs.declared.field.Kind.TheVariants as kind
+use Rattle.events.specs.declared.field.Direction.TheVariants.{Up}
 use Rattle.events.specs.declared.field.Position.TheVariants.{Reversed}
 use Rattle.events.specs.declared.field.Station.{Station}
 use Rattle.events.specs.declared.field.Turn.{Turn}
 use Rattle.line.specs.Changes.{Change, left, left_unexpected, passed, passed_at_on, suspended, unchanged}
-use Rattle.line.specs.Codes.{consent_makes, role_of, sending_makes}
-use Rattle.line.specs.Lines.{entering_answer, entering_makes, leaving_answer, leaving_makes, stop_control_makes}
 use Rattle.line.specs.Records.{is_off, used_train}
-use Rattle.section.specs.Sections.{beside_leaving, change_on, on_line, on_or_beside, outcome, pending_makes, row_of}
+use Rattle.section.specs.Sections.{change_on, on_line, on_or_beside, outcome, pending_makes, row_of}
 use Rattle.section.specs.declared.section.Section.{Section}
 use Rattle.runs.specs.Benches.{BenchState}
 use Rattle.runs.specs.Histories.{History, Step}
-use Rattle.runs.specs.Laws.{Place, answered, field, in_section, last_send}
+use Rattle.runs.specs.Laws.{Place, in_section, last_send}
 use Rattle.runs.proofs.Observed.{Says, words}
 
 pub says_nothing_elsewhere : (p : Place) (x : Step) (h : History) → in_section p x ≡ false → Says unchanged p x h
@@ -49,10 +41,10 @@ says_nothing_refused p r e b h = grind (arith, nat_tests)
 -- a code that is pending is the last that was sent
 abbrev pub Heard : Bell → List ℕ → Type 0
 Heard (Pending caller l c) sent =
-    (get_or sent 0 0 ≡ direction_number l) × (get_or sent 1 0 ≡ station_number caller) × (get_or sent 2 0 ≡ code_number c)
+    (slice_index sent 0 ≡ direction_number l) × (slice_index sent 1 ≡ station_number caller) × (slice_index sent 2 ≡ code_number c)
 Heard b sent = Unit {0}
 
-module _ (i j : ℕ) (l : Direction) (before after : BenchState) (h : History) (here : eqb j i ≡ true) where
+module _ (i j : ℕ) (l : Direction) (before after : BenchState) (h : History) (here : (j == i) ≡ true) where
   -- the step of an event in the section i, with its answer, says that the change c happens to its line l
   abbrev Said : Change → Event → Outcome → Type 0
   Said c e y = Says c (record { section = i; line = l }) (record { event = record { section = j; event = e }; before = before; answer = Ok y; after = after }) h
