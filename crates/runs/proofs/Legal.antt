@@ -73,8 +73,8 @@ pub held : (ns : Needs) → checked ns ≡ Ok tt → Holds ns
 held [] e = tt
 held (n ∷ ns) e = let parts : (n.0 ≡ true) × (checked ns ≡ Ok tt) = grind arith in (parts.0, held ns parts.1)
 
--- In what follows the last clause of a proof stands for each case that no clause above it takes; those above it tell apart
--- the lines, codes and positions.
+-- The last clause of each proof by cases stands for every case that no clause above it takes; those above it tell apart the
+-- lines, codes and positions.
 
 acknowledging_legal : (r : Row) (m : Meaning) (c : Code) (x : Role) (y : Consent) (t : Turn)
     → Holds (acknowledge_needs c x y t (reading_of m) r) → Legal (acknowledging_makes c x y) r m

@@ -42,6 +42,9 @@ pub record Sound (r : Row) (m : Meaning) : Type 0 where
   pub signals : SoundSignals r
   pub off_reads_clear : is_off r.signals.stop ≡ true → reads_clear m ≡ true
 
+-- The last clause of each proof by cases stands for every change that no clause above it takes; `_` keeps from the tactic
+-- what it does not need.
+
 module _ (r : Row) (m : Meaning) where
   permission_after : (c : Change) → permission_before c r.permission ≡ true → SoundPermission r.permission → SoundPermission (row_after c r).permission
   permission_after unchanged l s = grind (arith, nat_tests)

@@ -44,6 +44,8 @@ Heard (Pending caller l c) sent =
     (slice_index sent 0 ≡ direction_number l) × (slice_index sent 1 ≡ station_number caller) × (slice_index sent 2 ≡ code_number c)
 Heard b sent = Unit {0}
 
+-- As in `Lines`, a last clause stands for every case that no clause above it takes.
+
 module _ (i j : ℕ) (l : Direction) (before after : BenchState) (h : History) (here : (j == i) ≡ true) where
   -- the step of an event in the section i, with its answer, says that the change c happens to its line l
   abbrev Said : Change → Event → Outcome → Type 0
