@@ -73,8 +73,8 @@ pub held : (ns : Needs) → checked ns ≡ Ok tt → Holds ns
 held [] e = tt
 held (n ∷ ns) e = let parts : (n.0 ≡ true) × (checked ns ≡ Ok tt) = grind arith in (parts.0, held ns parts.1)
 
--- The last clause of each proof by cases stands for every case that no clause above it takes; those above it tell apart the
--- lines, codes and positions.
+-- The last clause of each proof by cases stands for every case that no clause above it takes; those above it tell apart
+-- the lines, codes and positions.
 
 acknowledging_legal : (r : Row) (m : Meaning) (c : Code) (x : Role) (y : Consent) (t : Turn)
     → Holds (acknowledge_needs c x y t (reading_of m) r) → Legal (acknowledging_makes c x y) r m
@@ -89,6 +89,6 @@ pending_legal v l b y t k = (refl, refl, refl)
 
 pub legal : (v : SectionState) (l : Direction) (e : Event) → Holds (state_needs v e) → Legal (change_on l v.section e) (row_of l v.section) (detector_on l v)
 legal v l (event.Acknowledge a y t) k = pending_legal v l v.section.bell y t k.1
-legal v Up (event.Send Up a code.TrainOut t) k = grind (arith, nat_tests)
-legal v Up (event.StopControl n Reversed) k = grind (arith, nat_tests)
+legal v l (event.Send n a code.TrainOut t) k = grind (arith, nat_tests)
+legal v l (event.StopControl n Reversed) k = grind (arith, nat_tests)
 legal v l e k = grind (arith, nat_tests)
