@@ -1,5 +1,5 @@
 -- What the words of the laws say of a step by which one change happens to a line. Assumes nothing.
-use Rattle.std.proofs.Common.{◌≡◌, ℕ, Bool, cond, ◌||◌, eqb, Some, None, Option}
+use Rattle.std.proofs.Common.{◌≡◌, ℕ, Bool, cond, ◌||◌, Some, Option, ◌==◌}
 use Rattle.detector.specs.declared.Action.{Action}
 use Rattle.detector.specs.declared.Action.TheVariants as action
 use Rattle.events.specs.declared.field.Place.TheVariants as place
@@ -37,7 +37,7 @@ change_number (reset_called a) = 21
 change_number (resume_called a) = 22
 
 abbrev pub is : Change → Change → Bool
-is c d = eqb (change_number c) (change_number d)
+is c d = change_number c == change_number d
 
 abbrev pub counts_in : Change → Bool
 counts_in c = is c (passed 0) || is c (passed_at_on 0)
@@ -47,12 +47,9 @@ counts_out c = is c (left 0) || is c (left_unexpected 0)
 
 -- the axles that a detector is told to count, in or out
 abbrev pub axles_told : Option Action → ℕ
-axles_told None = 0
 axles_told (Some (action.CountIn k)) = k
 axles_told (Some (action.CountOut k)) = k
-axles_told (Some action.Fail) = 0
-axles_told (Some action.Reset) = 0
-axles_told (Some (action.Roll t)) = 0
+axles_told t = 0
 
 -- every word, where the change c happens to the line p by the step x after the history h
 pub record Says (c : Change) (p : Place) (x : Step) (h : History) : Type 0 where

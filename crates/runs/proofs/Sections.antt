@@ -1,8 +1,7 @@
 -- What every run keeps of one section, over an event in it, a refused event and an event elsewhere. Assumes nothing.
-use Rattle.std.proofs.Common.{◌≡◌, ℕ, Bool, true, false, cond, ◌&&◌, eqb, List, refl, Ok, Err}
-use Rattle.answer.specs.Answers.{answer_number, refusal_number}
+use Rattle.std.proofs.Common.{◌≡◌, ℕ, true, false, cond, ◌&&◌, List, refl, Ok, Err, arith, ◌==◌}
+use Rattle.answer.specs.Answers.{answer_number}
 use Rattle.answer.specs.declared.Refusal.{Refusal}
-use Rattle.answer.specs.declared.Refusal.TheVariants as refusal
 use Rattle.bell.specs.Bells.{bell_after}
 use Rattle.bell.specs.declared.Bell.{Bell}
 use Rattle.events.specs.Written.{fields_in, is_kind}
@@ -13,6 +12,7 @@ use Rattle.events.specs.declared.field.Direction.{Direction}
 use Rattle.events.specs.declared.field.Direction.TheVariants.{Up, Down}
 use Rattle.events.specs.declared.field.Kind.TheVariants as kind
 use Rattle.line.specs.Changes.{unchanged}
+use Rattle.std.proofs.lemmas.Bool.Decides.{nat_tests}
 use Rattle.section.specs.Sections.{change_on, outcome, row_of}
 use Rattle.section.specs.States.{SectionState, detector_on, fresh_state, state_after, state_needs}
 use Rattle.section.specs.declared.section.Section.{Section}
@@ -34,11 +34,7 @@ pub record Safe (i : ℕ) (v : SectionState) (h : History) : Type 0 where
   pub lines : (l : Direction) → Kept (row_of l v.section) (detector_on l v) (line_of i l) h
 
 pub safe_fresh : (i : ℕ) → Safe i fresh_state start
-safe_fresh i = record { heard = tt; lines = lines }
-  where
-    lines : (l : Direction) → Kept (row_of l fresh_state.section) (detector_on l fresh_state) (line_of i l) start
-    lines Up = kept_fresh (line_of i Up)
-    lines Down = kept_fresh (line_of i Down)
+safe_fresh i = record { heard = tt; lines = elim [ Up ↦ kept_fresh (line_of i Up) | Down ↦ kept_fresh (line_of i Down) ] }
 
 -- a step is from the line as it was to the detector that it leaves
 between : (p : Place) (x : Step) (v : SectionState) → section_at p.section x.after ≡ v → Between (row_at p x.before) (detector_on p.line v) p x
@@ -49,24 +45,11 @@ between p x v became = record { off = refl; clear = rw became refl }
 
 -- the bell keeps what was sent
 heard_after : (b : Bell) (sent : List ℕ) (s : Section) (e : Event) → Heard b sent
-    → Heard (bell_after b e) (cond (is_kind kind.Send e && eqb (answer_number (Ok (outcome s e))) 0) (fields_in e) sent)
-heard_after b sent s (event.Call a) o = tt
-heard_after b sent s (event.Answer a) o = tt
-heard_after b sent s (event.Send l a c t) o = (refl, refl, refl)
-heard_after b sent s (event.Acknowledge a y t) o = tt
-heard_after b sent s (event.Error a) o = tt
-heard_after b sent s (event.StopControl l q) o = o
-heard_after b sent s (event.HomeControl l q) o = o
-heard_after b sent s (event.Enters l k) o = o
-heard_after b sent s (event.Leave l k) o = o
-heard_after b sent s (event.TrolleyStarts l) o = o
-heard_after b sent s (event.TrolleyEnds l e) o = o
-heard_after b sent s (event.Fails l) o = o
-heard_after b sent s (event.Reset l a) o = o
-heard_after b sent s (event.Resume l a) o = o
-heard_after b sent s (event.Roll l t) o = o
+    → Heard (bell_after b e) (cond (is_kind kind.Send e && answer_number (Ok (outcome s e)) == 0) (fields_in e) sent)
+heard_after b sent s (event.Call a) o = grind arith
+heard_after b sent s e o = grind arith
 
-module _ (i j : ℕ) (e : Event) (before after : BenchState) (h : History) (here : eqb j i ≡ true) where
+module _ (i j : ℕ) (e : Event) (before after : BenchState) (h : History) (here : (j == i) ≡ true) where
   abbrev state : SectionState
   state = section_at i before
 
@@ -101,32 +84,10 @@ module _ (i : ℕ) (x : Step) (h : History) (became : section_at i x.after ≡ s
     lines = λ l. kept_still (row_of l stood.section) (detector_on l stood) (line_of i l) x h (says l) (between (line_of i l) x stood became) (safe.lines l);
   }
 
-  pub safe_elsewhere : eqb x.event.section i ≡ false → Safe i stood h → Safe i stood (h ▸ x)
+  pub safe_elsewhere : (x.event.section == i) ≡ false → Safe i stood h → Safe i stood (h ▸ x)
   safe_elsewhere away safe = safe_still (rw away refl) (λ l. says_nothing_elsewhere (line_of i l) x h away) safe
-
--- the number of a refusal is that of no other answer
-apart : (r : Refusal) → (eqb (refusal_number r) 0 ≡ false) × (eqb (refusal_number r) 90 ≡ false) × (eqb (refusal_number r) 91 ≡ false)
-apart refusal.OutsideValues = (refl, refl, refl)
-apart refusal.NoSection = (refl, refl, refl)
-apart refusal.BellNotReady = (refl, refl, refl)
-apart refusal.WrongStation = (refl, refl, refl)
-apart refusal.LineSuspended = (refl, refl, refl)
-apart refusal.RecordNotAsNeeded = (refl, refl, refl)
-apart refusal.WrongTurn = (refl, refl, refl)
-apart refusal.SignalOrControl = (refl, refl, refl)
-apart refusal.DetectorNotClear = (refl, refl, refl)
-apart refusal.NotArrived = (refl, refl, refl)
-apart refusal.CallNotNeeded = (refl, refl, refl)
-
-unsent : {A : Type 0} (a b : Bool) (new old : A) → cond (a && (b && false)) new old ≡ old
-unsent true true new old = refl
-unsent true false new old = refl
-unsent false b new old = refl
 
 pub safe_refused : (i : ℕ) (r : Refusal) (e : SectionEvent) (b : BenchState) (h : History) → Safe i (section_at i b) h
     → Safe i (section_at i b) (h ▸ record { event = e; before = b; answer = Err r; after = b })
 safe_refused i r e b h safe =
-    let x : Step = record { event = e; before = b; answer = Err r; after = b } in
-    let a = apart r in
-    safe_still i x h refl (rw a.0 (unsent (eqb e.section i) (is_kind kind.Send e.event) (fields_in e.event) (last_send i h)))
-    (λ l. says_nothing_refused (line_of i l) x h a.0 a.1 a.2) safe
+    safe_still i (record { event = e; before = b; answer = Err r; after = b }) h refl (grind (arith, nat_tests)) (λ l. says_nothing_refused (line_of i l) r e b h) safe

@@ -1,6 +1,7 @@
 -- The stop signal, told in full and told step by step: the two agree. Assumes nothing.
-use Rattle.std.proofs.Common.{◌≡◌, Bool, true, false, cond, not, ◌&&◌, ◌||◌, Decides, sym, refl, ap, ◌∙◌, subst, arith}
-use Rattle.std.proofs.lemmas.Bool.{and_parts, and_from, both_ways}
+use Rattle.std.proofs.Common.{◌≡◌, Bool, true, false, cond, not, ◌&&◌, ◌||◌, Decides, refl, ◌∙◌, arith}
+use Rattle.std.proofs.lemmas.Bool.{and_parts, and_from}
+use Rattle.std.proofs.Math.Bool.{or-true}
 use Rattle.runs.specs.Histories.{History, Step, ◌▸◌, followed_by, start}
 use Rattle.runs.specs.Laws.{Place, ReversedUnderClear, clear_after, gives_train, passes, puts_back, reverses, spends, suspends, throughout}
 
@@ -21,11 +22,12 @@ reversal_stands p (h ▸ x) =
 
 joined_up : (a b c : History) → followed_by (followed_by a b) c ≡ followed_by a (followed_by b c)
 joined_up a b start = refl
-joined_up a b (c ▸ x) = ap (λ (h : History). h ▸ x) (joined_up a b c)
+joined_up a b (c ▸ x) = rw (joined_up a b c) refl
 
-either : (b : Bool) → (b || true) ≡ true
-either true = refl
-either false = refl
+-- where each of the later steps passes a test, the last does, and each before it
+last_passes : (test : Step → History → Bool) (h later : History) (x : Step) → throughout test h (later ▸ x) ≡ true
+    → (test x (followed_by h later) ≡ true) × (throughout test h later ≡ true)
+last_passes test h later x k = and_parts (test x (followed_by h later)) (throughout test h later) k
 
 still : (b : Bool) {s t a r z : Bool} → s ≡ true → t ≡ true → a ≡ true → r ≡ true → z ≡ true → (s && (cond b t (a && r) && z)) ≡ true
 still b hs ht ha hr hz = grind arith
@@ -52,9 +54,8 @@ module _ (p : Place) where
       → throughout unspent (earlier ▸ c) later ≡ true → train_stands p (followed_by (earlier ▸ c) later) ≡ true
   train_back earlier c start g u = rw g refl
   train_back earlier c (later ▸ x) g u =
-      let parts = and_parts (unspent x (followed_by (earlier ▸ c) later)) (throughout unspent (earlier ▸ c) later) u in
-      let k = train_back earlier c later g parts.1 in
-      rw (parts.0, k) (either (gives_train p x (followed_by (earlier ▸ c) later)))
+      let k = last_passes unspent (earlier ▸ c) later x u in
+      rw (k.0, train_back earlier c later g k.1, or-true)
 
   back : (earlier : History) (c : Step) (between : History) (r : Step) (since : History)
       → gives_train p c earlier ≡ true
@@ -65,17 +66,17 @@ module _ (p : Place) where
       → throughout clear (followed_by (earlier ▸ c) between ▸ r) since ≡ true
       → reversal_stands p (followed_by (followed_by (earlier ▸ c) between ▸ r) since) ≡ true
   back earlier c between r start g u v a z w =
-      let parts = and_parts (unspent r (followed_by (earlier ▸ c) between)) (throughout unspent (earlier ▸ c) between) u in
-      let k = train_back earlier c between g parts.1 in
-      rw (parts.0, v, k, z) refl
+      let k = last_passes unspent (earlier ▸ c) between r u in
+      rw (k.0, v, train_back earlier c between g k.1, z) refl
   back earlier c between r (since ▸ x) g u v a z w =
+      let rest = followed_by (between ▸ r) since in
       let whole = followed_by (earlier ▸ c) between ▸ r in
       let joined = joined_up (earlier ▸ c) (between ▸ r) since in
-      let k = and_parts (unspent x (followed_by (earlier ▸ c) (followed_by (between ▸ r) since))) (throughout unspent (earlier ▸ c) (followed_by (between ▸ r) since)) u in
-      let q = and_parts (alone x (followed_by whole since)) (throughout alone whole since) a in
-      let y = and_parts (clear x (followed_by whole since)) (throughout clear whole since) w in
-      let stands = subst (λ (t : History). train_stands p t ≡ true) (sym joined) (train_back earlier c (followed_by (between ▸ r) since) g k.1) in
-      let left = subst (λ (t : History). unspent x t ≡ true) (sym joined) k.0 in
+      let k = last_passes unspent (earlier ▸ c) rest x u in
+      let q = last_passes alone whole since x a in
+      let y = last_passes clear whole since x w in
+      let stands = rw (← joined) at (train_back earlier c rest g k.1) in
+      let left = rw (← joined) at k.0 in
       still (reverses p x) left stands q.0 (back earlier c between r since g k.1 v q.1 z y.1) y.0
 
   -- and forward to it
@@ -89,7 +90,7 @@ module _ (p : Place) where
     still_unused : throughout unspent (earlier ▸ consent) between ≡ true
 
   found : (t : History) → train_stands p t ≡ true → ConsentFound t
-  found start k = absurd (both_ways false refl k)
+  found start k = cc
   found (h ▸ x) k = go (gives_train p x h) refl (λ j. found h j)
     where
       go : (b : Bool) → gives_train p x h ≡ b → (train_stands p h ≡ true → ConsentFound h) → ConsentFound (h ▸ x)
@@ -101,13 +102,13 @@ module _ (p : Place) where
             earlier = f.earlier;
             consent = f.consent;
             between = f.between ▸ x;
-            whole = ap (λ (u : History). u ▸ x) f.whole;
+            whole = cc f.whole;
             consented = f.consented;
-            still_unused = and_from _ _ (subst (λ (u : History). unspent x u ≡ true) f.whole parts.0) f.still_unused;
+            still_unused = and_from _ _ (rw f.whole at parts.0) f.still_unused;
           }
 
   forward : (t : History) → reversal_stands p t ≡ true → ReversedUnderClear p t
-  forward start k = absurd (both_ways false refl k)
+  forward start k = cc
   forward (h ▸ x) k = go (reverses p x) refl (λ j. forward h j)
     where
       go : (b : Bool) → reverses p x ≡ b → (reversal_stands p h ≡ true → ReversedUnderClear p h) → ReversedUnderClear p (h ▸ x)
@@ -120,9 +121,9 @@ module _ (p : Place) where
             between = f.between;
             reversal = x;
             since = start;
-            whole = ap (λ (u : History). u ▸ x) f.whole;
+            whole = cc f.whole;
             consented = f.consented;
-            still_unused = and_from _ _ (subst (λ (u : History). unspent x u ≡ true) f.whole parts.0) f.still_unused;
+            still_unused = and_from _ _ (rw f.whole at parts.0) f.still_unused;
             reversed = e;
             left_alone = refl;
             clear_at_once = parts.2;
@@ -138,9 +139,9 @@ module _ (p : Place) where
             between = f.between;
             reversal = f.reversal;
             since = f.since ▸ x;
-            whole = ap (λ (u : History). u ▸ x) f.whole;
+            whole = cc f.whole;
             consented = f.consented;
-            still_unused = and_from _ _ (subst (λ (u : History). unspent x u ≡ true) (f.whole ∙ joined) parts.0) f.still_unused;
+            still_unused = and_from _ _ (rw (f.whole ∙ joined) at parts.0) f.still_unused;
             reversed = f.reversed;
             left_alone = and_from _ _ parts.1 f.left_alone;
             clear_at_once = f.clear_at_once;
@@ -150,6 +151,6 @@ module _ (p : Place) where
   pub tellings_agree : (t : History) → Decides (reversal_stands p t) (ReversedUnderClear p t)
   tellings_agree t = (
     forward t,
-    λ f. subst (λ (u : History). reversal_stands p u ≡ true) (sym f.whole)
+    λ f. rw f.whole
         (back f.earlier f.consent f.between f.reversal f.since f.consented f.still_unused f.reversed f.left_alone f.clear_at_once f.clear_since),
   )
