@@ -1,28 +1,21 @@
 -- The numbers of each kind of event, and what is answered at an event. Assumes nothing.
-use Rattle.std.proofs.Common.{◌≡◌, ℕ, ◌≤◌, true, List, [], ◌∷◌, length, Ok, Err, sym, refl, ap, ◌∙◌, subst, ⊎_elim, arith}
+use Rattle.std.proofs.Common.{◌≡◌, ℕ, ◌≤◌, true, List, [], ◌∷◌, length, Some, Ok, Err, sym, refl, ap, ◌∙◌, subst, ⊎_elim, arith}
 use Rattle.std.proofs.lemmas.Bool.Decides.{nat_tests}
 use Rattle.std.specs.List.{flat_map}
-use Rattle.events.specs.Listed.{listed_back}
+use Rattle.events.specs.Listed.{listed_back, code_back, consent_back, direction_back, kind_back, place_back, position_back, station_back, turn_back}
 use Rattle.events.specs.declared.event.Event.{Event}
 use Rattle.events.specs.declared.event.Event.TheVariants as event
 use Rattle.events.specs.declared.event.SectionEvent.{SectionEvent}
-use Rattle.events.specs.declared.field.Code.{Code}
 use Rattle.events.specs.declared.field.Code.TheVariants.{IsLineClear}
-use Rattle.events.specs.declared.field.Consent.{Consent}
 use Rattle.events.specs.declared.field.Consent.TheVariants.{Withheld}
-use Rattle.events.specs.declared.field.Direction.{Direction}
 use Rattle.events.specs.declared.field.Direction.TheVariants.{Up}
 use Rattle.events.specs.declared.field.Kind.{Kind}
 use Rattle.events.specs.declared.field.Kind.TheVariants as kind
-use Rattle.events.specs.declared.field.Place.{Place}
 use Rattle.events.specs.declared.field.Place.TheVariants.{Arrived}
-use Rattle.events.specs.declared.field.Position.{Position}
 use Rattle.events.specs.declared.field.Position.TheVariants.{Normal}
-use Rattle.events.specs.declared.field.Station.{Station}
 use Rattle.events.specs.declared.field.Station.TheVariants.{Zero}
-use Rattle.events.specs.declared.field.Turn.{Turn}
 use Rattle.events.specs.declared.field.Turn.TheVariants.{Straight}
-use Rattle.events.specs.Fields.{from_to, axle_counts, sections, tracks}
+use Rattle.events.specs.Fields.{Field, first_numbered, listed, from_to, axle_counts, sections, tracks}
 use Rattle.events.specs.Fields.{stations, station_number, every_station}
 use Rattle.events.specs.Fields.{directions, direction_number, every_direction}
 use Rattle.events.specs.Fields.{codes, code_number, every_code}
@@ -42,75 +35,68 @@ use Rattle.format.proofs.LayoutLaws.{bars_fault, bars_makes, layout_reads, layou
 
 -- Each field has a number for each value and a value for each of its numbers.
 
-station_means : (x : Station) → Means stations (station_number x) x
-station_means x = record { value = grind (arith, nat_tests); fits = grind (arith, nat_tests) }
+-- a field each value of which is what its number stands for
+record Covered {T : Type 0} (f : Field T) : Type 0 where
+  means : (x : T) → Means f (f.number x) x
+  sound : Sound f
 
-station_sound : Sound stations
-station_sound = record { back = λ n x m. listed_back station_number every_station n x m.value; number = station_number Zero; one = Zero; means = station_means Zero }
+covered :
+    {T : Type 0} (number : T → ℕ) (xs : List T) (one : T)
+    → ((x : T) → first_numbered number xs (number x) ≡ Some x) → ((x : T) → number x ≤ 65535) → Covered (listed number xs)
+covered number xs one back fits =
+    let means : (x : _) → Means (listed number xs) (number x) x = λ x. record { value = back x; fits = fits x } in
+    record { means = means; sound = record { back = λ n x m. listed_back number xs n x m.value; number = number one; one = one; means = means one } }
 
-direction_means : (x : Direction) → Means directions (direction_number x) x
-direction_means x = record { value = grind (arith, nat_tests); fits = grind (arith, nat_tests) }
+station : Covered stations
+station = covered station_number every_station Zero station_back (λ x. grind arith)
 
-direction_sound : Sound directions
-direction_sound = record { back = λ n x m. listed_back direction_number every_direction n x m.value; number = direction_number Up; one = Up; means = direction_means Up }
+direction : Covered directions
+direction = covered direction_number every_direction Up direction_back (λ x. grind arith)
 
-code_means : (x : Code) → Means codes (code_number x) x
-code_means x = record { value = grind (arith, nat_tests); fits = grind (arith, nat_tests) }
+code : Covered codes
+code = covered code_number every_code IsLineClear code_back (λ x. grind arith)
 
-code_sound : Sound codes
-code_sound = record { back = λ n x m. listed_back code_number every_code n x m.value; number = code_number IsLineClear; one = IsLineClear; means = code_means IsLineClear }
+turn : Covered turns
+turn = covered turn_number every_turn Straight turn_back (λ x. grind arith)
 
-turn_means : (x : Turn) → Means turns (turn_number x) x
-turn_means x = record { value = grind (arith, nat_tests); fits = grind (arith, nat_tests) }
+consent : Covered consents
+consent = covered consent_number every_consent Withheld consent_back (λ x. grind arith)
 
-turn_sound : Sound turns
-turn_sound = record { back = λ n x m. listed_back turn_number every_turn n x m.value; number = turn_number Straight; one = Straight; means = turn_means Straight }
+position : Covered positions
+position = covered position_number every_position Normal position_back (λ x. grind arith)
 
-consent_means : (x : Consent) → Means consents (consent_number x) x
-consent_means x = record { value = grind (arith, nat_tests); fits = grind (arith, nat_tests) }
+place : Covered places
+place = covered place_number every_place Arrived place_back (λ x. grind arith)
 
-consent_sound : Sound consents
-consent_sound = record { back = λ n x m. listed_back consent_number every_consent n x m.value; number = consent_number Withheld; one = Withheld; means = consent_means Withheld }
-
-position_means : (x : Position) → Means positions (position_number x) x
-position_means x = record { value = grind (arith, nat_tests); fits = grind (arith, nat_tests) }
-
-position_sound : Sound positions
-position_sound = record { back = λ n x m. listed_back position_number every_position n x m.value; number = position_number Normal; one = Normal; means = position_means Normal }
-
-place_means : (x : Place) → Means places (place_number x) x
-place_means x = record { value = grind (arith, nat_tests); fits = grind (arith, nat_tests) }
-
-place_sound : Sound places
-place_sound = record { back = λ n x m. listed_back place_number every_place n x m.value; number = place_number Arrived; one = Arrived; means = place_means Arrived }
-
-kind_means : (x : Kind) → Means kinds (kind_number x) x
-kind_means x = record { value = grind (arith, nat_tests); fits = grind (arith, nat_tests) }
-
-kind_sound : Sound kinds
-kind_sound = record { back = λ n x m. listed_back kind_number every_kind n x m.value; number = kind_number kind.Call; one = kind.Call; means = kind_means kind.Call }
+event_kind : Covered kinds
+event_kind = covered kind_number every_kind kind.Call kind_back (λ x. grind arith)
 
 module _ (least most : ℕ) where
-  range_means : (n : ℕ) → holds (from_to least most) n ≡ true → n ≤ 65535 → Means (from_to least most) n n
-  range_means n h k = record { value = grind (arith, nat_tests); fits = k }
-
-  range_same : (n m : ℕ) → Means (from_to least most) n m → n ≡ m
-  range_same n m h = let e = h.value in grind (arith, nat_tests)
+  range_means : most ≤ 65535 → (n : ℕ) → holds (from_to least most) n ≡ true → Means (from_to least most) n n
+  range_means k n h = record { value = grind (arith, nat_tests); fits = grind (arith, nat_tests) }
 
   range_holds : (n m : ℕ) → Means (from_to least most) n m → holds (from_to least most) m ≡ true
   range_holds n m h = let e = h.value in grind (arith, nat_tests)
 
-axles_sound : Sound axle_counts
-axles_sound = record { back = range_same 1 250; number = 1; one = 1; means = range_means 1 250 1 refl (omega arith) }
-
-track_sound : Sound tracks
-track_sound = record { back = range_same 0 6; number = 0; one = 0; means = range_means 0 6 0 refl (omega arith) }
+  range_sound : most ≤ 65535 → least ≤ most → Sound (from_to least most)
+  range_sound k h = record {
+    back = λ n m i. let e = i.value in grind (arith, nat_tests);
+    number = least;
+    one = least;
+    means = range_means k least (grind (arith, nat_tests));
+  }
 
 axles_mean : (k : ℕ) → holds axle_counts k ≡ true → Means axle_counts k k
-axles_mean k h = range_means 1 250 k h (grind (arith, nat_tests))
+axles_mean = range_means 1 250 (omega arith)
 
 track_means : (k : ℕ) → holds tracks k ≡ true → Means tracks k k
-track_means k h = range_means 0 6 k h (grind (arith, nat_tests))
+track_means = range_means 0 6 (omega arith)
+
+axles_sound : Sound axle_counts
+axles_sound = range_sound 1 250 (omega arith) (omega arith)
+
+track_sound : Sound tracks
+track_sound = range_sound 0 6 (omega arith) (omega arith)
 
 section_means : (n : ℕ) → n ≤ 65535 → Means sections n n
 section_means n h = record { value = refl; fits = h }
@@ -118,42 +104,42 @@ section_means n h = record { value = refl; fits = h }
 -- The fields of an event are those of its kind, one line for each kind.
 
 fields_follow : (e : Event) → within_values e ≡ true → Makes (fields_of (kind_of e)) (fields_in e) e
-fields_follow (event.Call a) w = (a, station_means a, refl)
-fields_follow (event.Answer a) w = (a, station_means a, refl)
-fields_follow (event.Send l a c t) w = (l, direction_means l, (a, station_means a, (c, code_means c, (t, turn_means t, refl))))
-fields_follow (event.Acknowledge a y t) w = (a, station_means a, (y, consent_means y, (t, turn_means t, refl)))
-fields_follow (event.Error a) w = (a, station_means a, refl)
-fields_follow (event.StopControl l p) w = (l, direction_means l, (p, position_means p, refl))
-fields_follow (event.HomeControl l p) w = (l, direction_means l, (p, position_means p, refl))
-fields_follow (event.Enters l k) w = (l, direction_means l, (k, axles_mean k w, refl))
-fields_follow (event.Leave l k) w = (l, direction_means l, (k, axles_mean k w, refl))
-fields_follow (event.TrolleyStarts l) w = (l, direction_means l, refl)
-fields_follow (event.TrolleyEnds l e) w = (l, direction_means l, (e, place_means e, refl))
-fields_follow (event.Fails l) w = (l, direction_means l, refl)
-fields_follow (event.Reset l a) w = (l, direction_means l, (a, station_means a, refl))
-fields_follow (event.Resume l a) w = (l, direction_means l, (a, station_means a, refl))
-fields_follow (event.Roll l k) w = (l, direction_means l, (k, track_means k w, refl))
+fields_follow (event.Call a) w = (a, station.means a, refl)
+fields_follow (event.Answer a) w = (a, station.means a, refl)
+fields_follow (event.Send l a c t) w = (l, direction.means l, (a, station.means a, (c, code.means c, (t, turn.means t, refl))))
+fields_follow (event.Acknowledge a y t) w = (a, station.means a, (y, consent.means y, (t, turn.means t, refl)))
+fields_follow (event.Error a) w = (a, station.means a, refl)
+fields_follow (event.StopControl l p) w = (l, direction.means l, (p, position.means p, refl))
+fields_follow (event.HomeControl l p) w = (l, direction.means l, (p, position.means p, refl))
+fields_follow (event.Enters l k) w = (l, direction.means l, (k, axles_mean k w, refl))
+fields_follow (event.Leave l k) w = (l, direction.means l, (k, axles_mean k w, refl))
+fields_follow (event.TrolleyStarts l) w = (l, direction.means l, refl)
+fields_follow (event.TrolleyEnds l e) w = (l, direction.means l, (e, place.means e, refl))
+fields_follow (event.Fails l) w = (l, direction.means l, refl)
+fields_follow (event.Reset l a) w = (l, direction.means l, (a, station.means a, refl))
+fields_follow (event.Resume l a) w = (l, direction.means l, (a, station.means a, refl))
+fields_follow (event.Roll l k) w = (l, direction.means l, (k, track_means k w, refl))
 
 -- an event of the kind k within its values
 abbrev Good : Kind → Event → Type 0
 Good k e = (kind_of e ≡ k) × (within_values e ≡ true)
 
 fields_written : (k : Kind) → Writes fields_in (Good k) (fields_of k) []
-fields_written kind.Call = (station_sound, λ _ _ _. (refl, (refl, refl)))
-fields_written kind.Answer = (station_sound, λ _ _ _. (refl, (refl, refl)))
-fields_written kind.Send = (direction_sound, λ _ _ _. (station_sound, λ _ _ _. (code_sound, λ _ _ _. (turn_sound, λ _ _ _. (refl, (refl, refl))))))
-fields_written kind.Acknowledge = (station_sound, λ _ _ _. (consent_sound, λ _ _ _. (turn_sound, λ _ _ _. (refl, (refl, refl)))))
-fields_written kind.Error = (station_sound, λ _ _ _. (refl, (refl, refl)))
-fields_written kind.StopControl = (direction_sound, λ _ _ _. (position_sound, λ _ _ _. (refl, (refl, refl))))
-fields_written kind.HomeControl = (direction_sound, λ _ _ _. (position_sound, λ _ _ _. (refl, (refl, refl))))
-fields_written kind.Enters = (direction_sound, λ _ _ _. (axles_sound, λ n k m. (refl, (refl, range_holds 1 250 n k m))))
-fields_written kind.Leave = (direction_sound, λ _ _ _. (axles_sound, λ n k m. (refl, (refl, range_holds 1 250 n k m))))
-fields_written kind.TrolleyStarts = (direction_sound, λ _ _ _. (refl, (refl, refl)))
-fields_written kind.TrolleyEnds = (direction_sound, λ _ _ _. (place_sound, λ _ _ _. (refl, (refl, refl))))
-fields_written kind.Fails = (direction_sound, λ _ _ _. (refl, (refl, refl)))
-fields_written kind.Reset = (direction_sound, λ _ _ _. (station_sound, λ _ _ _. (refl, (refl, refl))))
-fields_written kind.Resume = (direction_sound, λ _ _ _. (station_sound, λ _ _ _. (refl, (refl, refl))))
-fields_written kind.Roll = (direction_sound, λ _ _ _. (track_sound, λ n k m. (refl, (refl, range_holds 0 6 n k m))))
+fields_written kind.Call = (station.sound, λ _ _ _. (refl, (refl, refl)))
+fields_written kind.Answer = (station.sound, λ _ _ _. (refl, (refl, refl)))
+fields_written kind.Send = (direction.sound, λ _ _ _. (station.sound, λ _ _ _. (code.sound, λ _ _ _. (turn.sound, λ _ _ _. (refl, (refl, refl))))))
+fields_written kind.Acknowledge = (station.sound, λ _ _ _. (consent.sound, λ _ _ _. (turn.sound, λ _ _ _. (refl, (refl, refl)))))
+fields_written kind.Error = (station.sound, λ _ _ _. (refl, (refl, refl)))
+fields_written kind.StopControl = (direction.sound, λ _ _ _. (position.sound, λ _ _ _. (refl, (refl, refl))))
+fields_written kind.HomeControl = (direction.sound, λ _ _ _. (position.sound, λ _ _ _. (refl, (refl, refl))))
+fields_written kind.Enters = (direction.sound, λ _ _ _. (axles_sound, λ n k m. (refl, (refl, range_holds 1 250 n k m))))
+fields_written kind.Leave = (direction.sound, λ _ _ _. (axles_sound, λ n k m. (refl, (refl, range_holds 1 250 n k m))))
+fields_written kind.TrolleyStarts = (direction.sound, λ _ _ _. (refl, (refl, refl)))
+fields_written kind.TrolleyEnds = (direction.sound, λ _ _ _. (place.sound, λ _ _ _. (refl, (refl, refl))))
+fields_written kind.Fails = (direction.sound, λ _ _ _. (refl, (refl, refl)))
+fields_written kind.Reset = (direction.sound, λ _ _ _. (station.sound, λ _ _ _. (refl, (refl, refl))))
+fields_written kind.Resume = (direction.sound, λ _ _ _. (station.sound, λ _ _ _. (refl, (refl, refl))))
+fields_written kind.Roll = (direction.sound, λ _ _ _. (track_sound, λ n k m. (refl, (refl, range_holds 0 6 n k m))))
 
 -- The section is put before the fields.
 
@@ -186,7 +172,7 @@ section_filled n (field f k) g = (g.0, λ i a m. section_filled n (k a) (g.1 i a
 event_follows : (e : SectionEvent) → Proper e → Makes event_layout (numbers_in e) e
 event_follows e p = (
   kind_of e.event,
-  kind_means (kind_of e.event),
+  event_kind.means (kind_of e.event),
   (e.section, section_means e.section p.section_fits, section_makes e.section (fields_of (kind_of e.event)) (fields_in e.event) e.event (fields_follow e.event p.in_values)),
 )
 
@@ -198,14 +184,14 @@ event_made (i ∷ j ∷ ns) e m =
     let n = m.2.0 in
     let d = section_made n (fields_of k) ns e m.2.2 in
     let w = makes_written fields_in (Good k) (fields_of k) [] ns d.0 (fields_written k) d.2 in
-    let first : i ≡ kind_number (kind_of d.0) = kind_sound.back i k m.1 ∙ ap kind_number (sym w.1.0) in
+    let first : i ≡ kind_number (kind_of d.0) = event_kind.sound.back i k m.1 ∙ ap kind_number (sym w.1.0) in
     let second : j ≡ n = let e = m.2.1.value in cc in
     subst (λ x. (i ∷ j ∷ ns ≡ numbers_in x) × Proper x) d.1
     ((λ t. first t ∷ second t ∷ sym w.0 t), record { section_fits = subst (λ x. x ≤ 65535) second m.2.1.fits; in_values = w.1.1 })
 
 event_filled : Filled event_layout
 event_filled = (
-  (0, kind.Call, kind_means kind.Call),
+  (0, kind.Call, event_kind.means kind.Call),
   λ _ k _. ((0, 0, section_means 0 (omega arith)), λ _ n _. section_filled n (fields_of k) (written_filled fields_in (Good k) (fields_of k) [] (fields_written k))),
 )
 
