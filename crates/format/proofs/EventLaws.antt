@@ -1,5 +1,5 @@
 -- The numbers of each kind of event, and what is answered at an event. Assumes nothing.
-use Rattle.std.proofs.Common.{◌≡◌, ℕ, ◌≤◌, true, List, [], ◌∷◌, length, Some, Ok, Err, sym, refl, ap, ◌∙◌, subst, ⊎_elim, arith}
+use Rattle.std.proofs.Common.{◌≡◌, ℕ, ◌≤◌, true, List, [], ◌∷◌, ◌++◌, length, Some, Ok, Err, sym, refl, ap, ◌∙◌, subst, ⊎_elim, arith}
 use Rattle.std.proofs.lemmas.Bool.Decides.{nat_tests}
 use Rattle.std.specs.List.{flat_map}
 use Rattle.events.specs.Listed.{listed_back, code_back, consent_back, direction_back, kind_back, place_back, position_back, station_back, turn_back}
@@ -197,33 +197,27 @@ event_filled = (
 
 -- The same in the words of the format.
 
+-- an event that goes on is made with all its numbers
+event_goes : {ns : List ℕ} {n : ℕ} (g : GoesOn ns n) → Makes event_layout (ns ++ n ∷ g.more) g.event
+event_goes g = rw g.numbers (event_follows g.event g.proper)
+
+goes_event : (ns : List ℕ) (n : ℕ) (more : List ℕ) (e : SectionEvent) → Makes event_layout (ns ++ n ∷ more) e → GoesOn ns n
+goes_event ns n more e m = let d = event_made (ns ++ n ∷ more) e m in record { event = e; proper = d.1; more = more; numbers = d.0 }
+
 begun_wants : (ns : List ℕ) → Begun ns → Wants event_layout ns
-begun_wants ns b =
-    let g = b.1 in
-    makes_wants event_layout ns b.0 g.more g.event (subst (λ l. Makes event_layout l g.event) (sym g.numbers) (event_follows g.event g.proper))
+begun_wants ns b = makes_wants event_layout ns b.0 b.1.more b.1.event (event_goes b.1)
 
 pub wants_begun : (ns : List ℕ) → Wants event_layout ns → Begun ns
-wants_begun ns w =
-    let m = wants_makes event_layout event_filled ns w in
-    let e = event_made _ _ m.3 in
-    (m.0, record { event = m.2; proper = e.1; more = m.1; numbers = e.0 })
+wants_begun ns w = let m = wants_makes event_layout event_filled ns w in (m.0, goes_event ns m.0 m.1 m.2 m.3)
 
 pub bars_stuck : (ns : List ℕ) (n : ℕ) → Bars event_layout ns n → GoesOn ns n → ⊥
-bars_stuck ns n b g =
-    bars_makes event_layout ns n g.more g.event b (subst (λ l. Makes event_layout l g.event) (sym g.numbers) (event_follows g.event g.proper))
+bars_stuck ns n b g = bars_makes event_layout ns n g.more g.event b (event_goes g)
 
 stuck_bars : (ns : List ℕ) (n : ℕ) → n ≤ 65535 → Begun ns → (GoesOn ns n → ⊥) → Bars event_layout ns n
 stuck_bars ns n h b stuck =
-    ⊎_elim
-    (λ x. x)
-    (λ m. let e = event_made _ _ m.2 in absurd (stuck (record { event = m.1; proper = e.1; more = m.0; numbers = e.0 })))
-    (wanted_number event_layout event_filled ns n h (begun_wants ns b))
+    ⊎_elim (λ x. x) (λ m. absurd (stuck (goes_event ns n m.0 m.1 m.2))) (wanted_number event_layout event_filled ns n h (begun_wants ns b))
 
 -- An event is read as its layout is.
-
-then_same : {A B : Type 0} (r : Answer A) (f g : A → ℕ → Answer B) → ((x : A) (q : ℕ) → f x q ≡ g x q) → and_then r f ≡ and_then r g
-then_same (Ok x) f g h = h x.0 x.1
-then_same (Err e) f g h = refl
 
 then_then : {A B C : Type 0} (r : Answer A) (f : A → ℕ → Answer B) (g : B → ℕ → Answer C) → and_then (and_then r f) g ≡ and_then r (λ x q. and_then (f x q) g)
 then_then (Ok x) f g = refl
@@ -231,14 +225,11 @@ then_then (Err e) f g = refl
 
 section_at : (n : ℕ) (l : Layout Event) (s : List ℕ) (p : ℕ) → layout_at (in_section n l) s p ≡ and_then (layout_at l s p) (λ e q. Ok (at_section n e, q))
 section_at n (done e) s p = refl
-section_at n (field f k) s p =
-    then_same (field_at f s p) _ _ (λ x q. section_at n (k x) s q) ∙ sym (then_then (field_at f s p) (λ x q. layout_at (k x) s q) (λ e q. Ok (at_section n e, q)))
+section_at n (field {A} f k) s p = simp (then_then, λ (x : A). section_at n (k x) s)
 
 event_is : (s : List ℕ) (p : ℕ) → layout_at event_layout s p ≡ event_at s p
 unfolding field_at
-event_is s p =
-    then_same (field_at kinds s p) _ _
-    (λ k q. then_then (number_at s q) _ _ ∙ then_same (number_at s q) _ _ (λ n r. section_at n (fields_of k) s r))
+event_is s p = simp (then_then, section_at)
 
 -- an event is read exactly where its written form stands
 pub event_reads : (e : SectionEvent) (s : List ℕ) (p q : ℕ) → Proper e → Stands s p q (written_event e) → event_at s p ≡ Ok (e, q)
