@@ -184,10 +184,9 @@ event_made (i ∷ j ∷ ns) e m =
     let n = m.2.0 in
     let d = section_made n (fields_of k) ns e m.2.2 in
     let w = makes_written fields_in (Good k) (fields_of k) [] ns d.0 (fields_written k) d.2 in
-    let first : i ≡ kind_number (kind_of d.0) = event_kind.sound.back i k m.1 ∙ ap kind_number (sym w.1.0) in
-    let second : j ≡ n = let e = m.2.1.value in cc in
-    subst (λ x. (i ∷ j ∷ ns ≡ numbers_in x) × Proper x) d.1
-    ((λ t. first t ∷ second t ∷ sym w.0 t), record { section_fits = subst (λ x. x ≤ 65535) second m.2.1.fits; in_values = w.1.1 })
+    let first : i ≡ kind_number (kind_of d.0) = cc (event_kind.sound.back i k m.1, w.1.0) in
+    let second : j ≡ n = cc (m.2.1.value) in
+    rw (← d.1) (cc (first, second, w.0), record { section_fits = rw second at m.2.1.fits; in_values = w.1.1 })
 
 event_filled : Filled event_layout
 event_filled = (
@@ -235,16 +234,17 @@ event_is s p = simp (then_then, section_at)
 pub event_reads : (e : SectionEvent) (s : List ℕ) (p q : ℕ) → Proper e → Stands s p q (written_event e) → event_at s p ≡ Ok (e, q)
 event_reads e s p q h t = sym (event_is s p) ∙ layout_reads event_layout s p q (numbers_in e) e (event_follows e h) t
 
+-- what is answered at an event stands there
+pub event_told : (s : List ℕ) (p : ℕ) (r : Answer SectionEvent) → Bytes s → p ≤ length s → event_at s p ≡ r → Answered event_layout s p r
+event_told s p r B h e = subst (Answered event_layout s p) (event_is s p ∙ e) (layout_told event_layout s p B h)
+
 pub event_wrote : (e : SectionEvent) (s : List ℕ) (p q : ℕ) → Bytes s → p ≤ length s → event_at s p ≡ Ok (e, q) → Stands s p q (written_event e) × Proper e
 event_wrote e s p q B h a =
-    let m : Made event_layout s p q e = subst (Answered event_layout s p) (event_is s p ∙ a) (layout_told event_layout s p B h) in
+    let m = event_told s p (Ok (e, q)) B h a in
     let d = event_made m.numbers e m.makes in
-    (subst (λ ns. Stands s p q (flat_map written_number ns)) d.0 m.stands, d.1)
+    (rw d.0 at m.stands, d.1)
 
--- and stops exactly where a number of it does
-pub event_stopped : (s : List ℕ) (p : ℕ) (f : ReadFault) → Bytes s → p ≤ length s → event_at s p ≡ Err f → Stopped event_layout s p f
-event_stopped s p f B h e = subst (Answered event_layout s p) (event_is s p ∙ e) (layout_told event_layout s p B h)
-
+-- an event stops where a number of it does
 pub number_stops : (s : List ℕ) (p q : ℕ) (ns : List ℕ) (f : ReadFault) → Begun ns → Stands s p q (flat_map written_number ns) → number_at s q ≡ Err f → event_at s p ≡ Err f
 number_stops s p q ns f b t e = sym (event_is s p) ∙ wants_fault event_layout s p q ns f (begun_wants ns b) t e
 

@@ -15,7 +15,7 @@ use Rattle.format.specs.Layouts.{event_at}
 use Rattle.format.specs.Numbers.{Answer, Bytes, fault, number_at}
 use Rattle.format.specs.Openings.{counted, opening}
 use Rattle.format.specs.Sheets.{Begins, GoesOn, Malformed, Nothing, Outcome, ReadUpTo, SectionCount, Sheet, Stands, StopsFor, Tells, Wanted}
-use Rattle.format.proofs.EventLaws.{bars_stuck, event_reads, event_stopped, number_stops, value_stops, wants_begun}
+use Rattle.format.proofs.EventLaws.{bars_stuck, event_reads, event_told, number_stops, value_stops, wants_begun}
 use Rattle.format.proofs.NumberLaws.{NumberTold, cut_ends, malformed_stops, number_reads, number_told, number_wrote, written_long}
 use Rattle.format.proofs.Standing.{stands_front, stands_back, stands_inside, stands_join, stands_whole, stands_within}
 
@@ -129,7 +129,7 @@ event_stops :
     → Bytes s → Sofar s n q p es → p < length s → event_at s p ≡ Err f → StopsFor f.reason s f.offset (Some n) es
 event_stops s n q p es f B h l e =
     let o = sofar_opened s n q p es B h in
-    let t = event_stopped s p f B (omega arith) e in
+    let t = event_told s p (Err f) B (omega arith) e in
     let within : t.place ≤ length s = stands_within (omega arith) t.stands in
     let u : ReadUpTo s t.place n es t.numbers = record {
       sections = o.1;
