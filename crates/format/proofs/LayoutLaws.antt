@@ -139,8 +139,8 @@ layout_reads (done y) s p q [] x m t = let same : q ≡ p = t.after ∙ add-zero
 layout_reads (done y) s p q (n ∷ ns) x m t = absurd m
 layout_reads (field f k) s p q [] x m t = absurd m
 layout_reads (field f k) s p q (n ∷ ns) x m t =
-    rw (field_reads f s p _ n m.0 m.1 (stands_front (written_number n) (flat_map written_number ns) t))
-    (layout_reads (k m.0) s _ q ns x m.2 (stands_back (written_number n) (flat_map written_number ns) t))
+    rw (field_reads f s p _ n m.0 m.1 (stands_front _ _ t))
+    (layout_reads (k m.0) s _ q ns x m.2 (stands_back _ _ t))
 
 -- a fault at a number that is wanted is the layout's
 pub wants_fault :
@@ -150,8 +150,8 @@ unfolding field_at
 wants_fault (done y) s p q ns g w t e = absurd w
 wants_fault (field f k) s p q [] g w t e = let same : p ≡ q = sym (t.after ∙ add-zero p) in rw (same, e)
 wants_fault (field f k) s p q (n ∷ ns) g w t e =
-    rw (field_reads f s p _ n w.0 w.1 (stands_front (written_number n) (flat_map written_number ns) t))
-    (wants_fault (k w.0) s _ q ns g w.2 (stands_back (written_number n) (flat_map written_number ns) t) e)
+    rw (field_reads f s p _ n w.0 w.1 (stands_front _ _ t))
+    (wants_fault (k w.0) s _ q ns g w.2 (stands_back _ _ t) e)
 
 -- so is a number that stands for no value
 pub bars_fault :
@@ -161,8 +161,8 @@ unfolding field_at
 bars_fault (done y) s p q r ns n b t e = absurd b
 bars_fault (field f k) s p q r [] n b t e = let same : p ≡ q = sym (t.after ∙ add-zero p) in rw (same, e, b)
 bars_fault (field f k) s p q r (m ∷ ns) n b t e =
-    rw (field_reads f s p _ m b.0 b.1 (stands_front (written_number m) (flat_map written_number ns) t))
-    (bars_fault (k b.0) s _ q r ns n b.2 (stands_back (written_number m) (flat_map written_number ns) t) e)
+    rw (field_reads f s p _ m b.0 b.1 (stands_front _ _ t))
+    (bars_fault (k b.0) s _ q r ns n b.2 (stands_back _ _ t) e)
 
 -- What is answered at a layout stands there.
 

@@ -187,16 +187,16 @@ module _ (s : List ℕ) where
 
   module _ (o n : ℕ) (es : List SectionEvent) (ns : List ℕ) (h : length s ≤ 65536) (u : ReadUpTo s o n es ns) where
     whole : Stands s 0 (0 + length (written_sheet n es)) (written_sheet n es)
-    whole = stands_front (written_sheet n es) (flat_map written_number ns) u.stands
+    whole = stands_front _ _ u.stands
 
     begun : Stands s (0 + length (written_sheet n es)) o (flat_map written_number ns)
-    begun = stands_back (written_sheet n es) (flat_map written_number ns) u.stands
+    begun = stands_back _ _ u.stands
 
     sofar : Sofar s n (0 + length (written_number n)) (0 + length (written_sheet n es)) es
     sofar = record {
-      opened = opening_reads s n _ h u.sections (stands_front (written_number n) (flat_map written_event es) whole);
+      opened = opening_reads s n _ h u.sections (stands_front _ _ whole);
       proper = u.proper;
-      stands = stands_back (written_number n) (flat_map written_event es) whole;
+      stands = stands_back _ _ whole;
     }
 
     inside_event : 0 < length ns + length (drop o s) → 0 + length (written_sheet n es) < length s
@@ -265,9 +265,9 @@ module _ (s : List ℕ) where
         p = length s;
         counts = refl;
         sofar = record {
-          opened = opening_reads s n _ h.short h.sections (stands_front (written_number n) (flat_map written_event es) all);
+          opened = opening_reads s n _ h.short h.sections (stands_front _ _ all);
           proper = h.proper;
-          stands = stands_back (written_number n) (flat_map written_event es) all;
+          stands = stands_back _ _ all;
         };
         ended = inl (omega arith, refl);
       })
@@ -317,18 +317,18 @@ module _ (s : List ℕ) where
       (ended_one u r t (subst (λ z. Ended s z r) same x) y, refl)
   events_one [] (d ∷ ds) p q u r t a i x b j y =
       let same : q ≡ p = a.after ∙ add-zero p in
-      absurd (ended_event p _ r d j.0 (stands_front (written_event d) (flat_map written_event ds) b) (subst (λ z. Ended s z r) same x))
+      absurd (ended_event p _ r d j.0 (stands_front _ _ b) (subst (λ z. Ended s z r) same x))
   events_one (e ∷ es) [] p q u r t a i x b j y =
       let same : u ≡ p = b.after ∙ add-zero p in
-      absurd (ended_event p _ t e i.0 (stands_front (written_event e) (flat_map written_event es) a) (subst (λ z. Ended s z t) same y))
+      absurd (ended_event p _ t e i.0 (stands_front _ _ a) (subst (λ z. Ended s z t) same y))
   events_one (e ∷ es) (d ∷ ds) p q u r t a i x b j y =
-      let m = event_reads e s p _ i.0 (stands_front (written_event e) (flat_map written_event es) a) in
-      let n = event_reads d s p _ j.0 (stands_front (written_event d) (flat_map written_event ds) b) in
+      let m = event_reads e s p _ i.0 (stands_front _ _ a) in
+      let n = event_reads d s p _ j.0 (stands_front _ _ b) in
       let same : ◌≡◌ {A = SectionEvent × ℕ} (e, p + length (written_event e)) (d, p + length (written_event d)) = cc in
       let rest =
       events_one es ds (p + length (written_event e)) q u r t
-      (stands_back (written_event e) (flat_map written_event es) a) i.1 x
-      (subst (λ z. Stands s z u (flat_map written_event ds)) (sym (ap (λ z. z.1) same)) (stands_back (written_event d) (flat_map written_event ds) b)) j.1 y in
+      (stands_back _ _ a) i.1 x
+      (subst (λ z. Stands s z u (flat_map written_event ds)) (sym (ap (λ z. z.1) same)) (stands_back _ _ b)) j.1 y in
       (rest.0, λ k. (same k).0 ∷ rest.1 k)
 
   pub course_one : (r t : Outcome) (c d : Option ℕ) (es ds : List SectionEvent) → Course s r c es → Course s t d ds → (r ≡ t) × (c ≡ d) × (es ≡ ds)
