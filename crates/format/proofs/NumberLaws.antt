@@ -6,7 +6,7 @@ use Rattle.events.specs.Written.{written_number}
 use Rattle.format.specs.declared.fault.Reason.TheVariants.{Ends, Form}
 use Rattle.format.specs.Numbers.{Answer, Bytes, fault, first_byte, number_at, second_byte, third_byte}
 use Rattle.format.specs.Sheets.{Begins, Cut, Malformed, Stands}
-use Rattle.format.proofs.Standing.{stands_inside}
+use Rattle.format.proofs.Standing.{begins_stands, stands_inside}
 
 -- the written form, by its length
 one_byte : (n : ℕ) → n < 128 → written_number n ≡ n ∷ []
@@ -212,14 +212,8 @@ first_told p (a ∷ bs) B =
     (cases_eq a 128))
     (cases_lt a 128)
 
-pub number_told : (s : List ℕ) (p : ℕ) → Bytes s → p ≤ length s → NumberTold p (drop p s) (number_at s p)
-number_told s p B h = rw (from_first s p h) (first_told p (drop p s) (λ k. rw get_or-drop (B (p + k))))
+pub number_told : (s : List ℕ) (p : ℕ) (r : Answer ℕ) → Bytes s → p ≤ length s → number_at s p ≡ r → NumberTold p (drop p s) r
+number_told s p r B h e = rw (← e, from_first s p h) (first_told p (drop p s) (λ k. rw get_or-drop (B (p + k))))
 
 pub number_wrote : (s : List ℕ) (p q n : ℕ) → Bytes s → p ≤ length s → number_at s p ≡ Ok (n, q) → Stands s p q (written_number n) × (n ≤ 65535)
-number_wrote s p q n B h e =
-    let t = subst (NumberTold p (drop p s)) e (number_told s p B h) in
-    let w = t.0.whole in
-    let back : drop q s ≡ t.0.rest =
-    ap (λ m. drop m s) t.2 ∙ sym (drop-drop (length (written_number n)) p s) ∙ ap (drop (length (written_number n))) w
-    ∙ drop_at (written_number n) t.0.rest (length (written_number n)) refl in
-    (record { after = t.2; bytes = w ∙ ap (λ l. written_number n ++ l) (sym back) }, t.1)
+number_wrote s p q n B h e = let t = number_told s p (Ok (n, q)) B h e in (rw t.2 (begins_stands t.0), t.1)

@@ -16,8 +16,8 @@ use Rattle.format.specs.Numbers.{Answer, Bytes, fault, number_at}
 use Rattle.format.specs.Openings.{counted, opening}
 use Rattle.format.specs.Sheets.{Begins, GoesOn, Malformed, Nothing, Outcome, ReadUpTo, SectionCount, Sheet, Stands, StopsFor, Tells, Wanted}
 use Rattle.format.proofs.EventLaws.{bars_stuck, event_reads, event_told, number_stops, value_stops, wants_begun}
-use Rattle.format.proofs.NumberLaws.{NumberTold, cut_ends, malformed_stops, number_reads, number_told, number_wrote, written_long}
-use Rattle.format.proofs.Standing.{stands_front, stands_back, stands_inside, stands_join, stands_whole, stands_within}
+use Rattle.format.proofs.NumberLaws.{cut_ends, malformed_stops, number_reads, number_told, number_wrote, written_long}
+use Rattle.format.proofs.Standing.{begins_stands, stands_begins, stands_front, stands_back, stands_inside, stands_join, stands_whole, stands_within}
 
 -- The section count.
 
@@ -26,8 +26,16 @@ abbrev pub Opened : List ℕ → Result (ℕ × ℕ) RunFault → Type 0
 Opened s (Ok x) = (length s ≤ 65536) × SectionCount x.0 × Stands s 0 x.1 (written_number x.0)
 Opened s (Err f) = Tells s (Err f) None []
 
-stands_begins : {s : List ℕ} {p q n : ℕ} → Stands s p q (written_number n) → Begins (drop p s) n
-stands_begins {s} {p} {q} {n} t = record { rest = drop q s; whole = t.bytes }
+-- a fault at a number that is wanted is told where that stands
+number_tells :
+    (s : List ℕ) (c : Option ℕ) (es : List SectionEvent) (ns : List ℕ) (o : ℕ) (f : ReadFault)
+    → Bytes s → length s ≤ 65536 → o ≤ length s → Wanted s o c es ns → (c ≡ None) ⊎ (0 < length ns + length (drop o s)) → number_at s o ≡ Err f
+    → StopsFor f.reason s f.offset c es
+number_tells s c es ns o f B h l u i e =
+    ⊎_elim
+    (λ t. rw t.0 (record { short = h; numbers = ns; wanted = u; cut = t.1; inside = i }))
+    (λ t. rw t.1 (record { short = h; numbers = ns; place = o; wanted = u; malformed = t.2 }))
+    (number_told s o (Err f) B l e)
 
 counted_told : (s : List ℕ) → Bytes s → length s ≤ 65536 → (r : Answer ℕ) → number_at s 0 ≡ r → Opened s (counted r)
 counted_told s B h (Ok x) e =
@@ -42,11 +50,7 @@ counted_told s B h (Ok x) e =
     (λ m. rw (le-leb 1 x.0 l, le-leb x.0 8 m) (h, record { some = l; few = m }, w.0))
     (cases_lt 8 x.0))
     (cases_lt x.0 1)
-counted_told s B h (Err f) e =
-    ⊎_elim
-    (λ t. subst (λ g. Opened s (Err (Read g))) (sym t.0) (record { short = h; numbers = []; wanted = (refl, refl, refl); cut = t.1; inside = inl refl }))
-    (λ t. subst (λ g. Opened s (Err (Read g))) (sym t.1) (record { short = h; numbers = []; place = 0; wanted = (refl, refl, refl); malformed = t.2 }))
-    (subst (NumberTold 0 s) e (number_told s 0 B (omega arith)))
+counted_told s B h (Err f) e = number_tells s None [] [] 0 f B h (omega arith) (refl, refl, refl) (inl refl) e
 
 opening_told : (s : List ℕ) → Bytes s → Opened s (opening s)
 opening_told s B =
@@ -109,16 +113,6 @@ sofar_opened s n q p es B h = subst (Opened s) h.opened (opening_told s B)
 pub sofar_whole : (s : List ℕ) (n q p : ℕ) (es : List SectionEvent) → Bytes s → Sofar s n q p es → Stands s 0 p (written_sheet n es)
 sofar_whole s n q p es B h = stands_join (sofar_opened s n q p es B h).2 h.stands
 
-number_tells :
-    (s : List ℕ) (n : ℕ) (es : List SectionEvent) (ns : List ℕ) (o : ℕ) (f : ReadFault)
-    → Bytes s → length s ≤ 65536 → o ≤ length s → ReadUpTo s o n es ns → 0 < length ns + length (drop o s) → number_at s o ≡ Err f
-    → StopsFor f.reason s f.offset (Some n) es
-number_tells s n es ns o f B h l u i e =
-    ⊎_elim
-    (λ t. subst (λ g. StopsFor g.reason s g.offset (Some n) es) (sym t.0) (record { short = h; numbers = ns; wanted = u; cut = t.1; inside = inr i }))
-    (λ t. subst (λ g. StopsFor g.reason s g.offset (Some n) es) (sym t.1) (record { short = h; numbers = ns; place = o; wanted = u; malformed = t.2 }))
-    (subst (NumberTold o (drop o s)) e (number_told s o B l))
-
 -- an event that stops has begun, or the sheet goes on
 something_left : (s : List ℕ) (p o : ℕ) (ns : List ℕ) → p < length s → Stands s p o (flat_map written_number ns) → 0 < length ns + length (drop o s)
 something_left s p o [] h t = let same : o ≡ p = t.after ∙ add-zero p in omega (arith, length-drop o s)
@@ -138,10 +132,10 @@ event_stops s n q p es f B h l e =
       stands = stands_join (sofar_whole s n q p es B h) t.stands;
     } in
     ⊎_elim
-    (λ c. number_tells s n es t.numbers t.place f B o.0 within u (something_left s p t.place t.numbers l t.stands) c)
+    (λ c. number_tells s (Some n) es t.numbers t.place f B o.0 within u (inr (something_left s p t.place t.numbers l t.stands)) c)
     (λ c.
     let w = number_wrote s t.place c.1 c.0 B within c.2 in
-    subst (λ g. StopsFor g.reason s g.offset (Some n) es) (sym c.3)
+    rw c.3
     (inl (record {
       short = o.0;
       numbers = t.numbers;
@@ -217,14 +211,6 @@ module _ (s : List ℕ) where
     value_fault : (m r : ℕ) → number_at s o ≡ Ok (m, r) → m ≤ 65535 → (GoesOn ns m → ⊥) → o < length s → Course s (Err (Read (fault Value o))) (Some n) es
     value_fault m r e fits stuck l =
         stopped (fault Value o) (omega (arith, length-drop o s)) (value_stops s _ o r ns m fits u.begun stuck begun e)
-
-begins_stands : {s : List ℕ} {p n : ℕ} → Begins (drop p s) n → Stands s p (p + length (written_number n)) (written_number n)
-begins_stands {s} {p} {n} b = record {
-  after = refl;
-  bytes =
-      b.whole
-      ∙ ap (λ l. written_number n ++ l) (sym (sym (drop-drop (length (written_number n)) p s) ∙ ap (drop (length (written_number n))) b.whole ∙ drop_at (written_number n) b.rest (length (written_number n)) refl));
-}
 
 malformed_some : {bs : List ℕ} {p o : ℕ} → Malformed bs p o → 0 < length bs
 malformed_some {bs} m =
