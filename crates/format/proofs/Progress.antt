@@ -103,7 +103,7 @@ pub more :
 more s n p r vs v h e =
     let w = next_wrote s n p r vs v h e in
     let t = h.sofar in
-    let count = (sofar_opened s n h.q p h.es h.bytes t).2 in
+    let count = (sofar_opened h.bytes t).2 in
     let first : h.q ≡ length (written_number n) = count.after ∙ zero-add _ in
     let here : v.offset ≡ length (written_number n) + length (flat_map written_event h.es) = omega (arith, w.1, t.stands.after, first) in (
       record {
@@ -149,7 +149,7 @@ pub told_memory :
     (s : List ℕ) (n p r : ℕ) (vs : List LocatedEvent) (v : LocatedEvent)
     → Progress s n p vs → next_at s p ≡ Ok (Some v, r) → Told s (Err Memory) (Some n) vs
 told_memory s n p r vs v h e =
-    let o = sofar_opened s n h.q p h.es h.bytes h.sofar in
+    let o = sofar_opened h.bytes h.sofar in
     let w = next_wrote s n p r vs v h e in
     record {
       es = h.es;
@@ -160,7 +160,7 @@ told_memory s n p r vs v h e =
         section_count = o.1;
         proper = h.sofar.proper;
         place = p;
-        stands = sofar_whole s n h.q p h.es h.bytes h.sofar;
+        stands = sofar_whole h.bytes h.sofar;
         next = v.told;
         next_proper = w.2.1;
         after = r;

@@ -26,16 +26,20 @@ abbrev pub Opened : List ℕ → Result (ℕ × ℕ) RunFault → Type 0
 Opened s (Ok x) = (length s ≤ 65536) × SectionCount x.0 × Stands s 0 x.1 (written_number x.0)
 Opened s (Err f) = Tells s (Err f) None []
 
+wanted_within : (s : List ℕ) (o : ℕ) (c : Option ℕ) (es : List SectionEvent) (ns : List ℕ) → Wanted s o c es ns → o ≤ length s
+wanted_within s o None es ns w = omega arith
+wanted_within s o (Some n) es ns w = stands_within (omega arith) w.stands
+
 -- a fault at a number that is wanted is told where that stands
 number_tells :
     (s : List ℕ) (c : Option ℕ) (es : List SectionEvent) (ns : List ℕ) (o : ℕ) (f : ReadFault)
-    → Bytes s → length s ≤ 65536 → o ≤ length s → Wanted s o c es ns → (c ≡ None) ⊎ (0 < length ns + length (drop o s)) → number_at s o ≡ Err f
+    → Bytes s → length s ≤ 65536 → Wanted s o c es ns → (c ≡ None) ⊎ (0 < length ns + length (drop o s)) → number_at s o ≡ Err f
     → StopsFor f.reason s f.offset c es
-number_tells s c es ns o f B h l u i e =
+number_tells s c es ns o f B h u i e =
     ⊎_elim
     (λ t. rw t.0 (record { short = h; numbers = ns; wanted = u; cut = t.1; inside = i }))
     (λ t. rw t.1 (record { short = h; numbers = ns; place = o; wanted = u; malformed = t.2 }))
-    (number_told s o (Err f) B l e)
+    (number_told s o (Err f) B (wanted_within s o c es ns u) e)
 
 counted_told : (s : List ℕ) → Bytes s → length s ≤ 65536 → (r : Answer ℕ) → number_at s 0 ≡ r → Opened s (counted r)
 counted_told s B h (Ok x) e =
@@ -50,13 +54,13 @@ counted_told s B h (Ok x) e =
     (λ m. rw (le-leb 1 x.0 l, le-leb x.0 8 m) (h, record { some = l; few = m }, w.0))
     (cases_lt 8 x.0))
     (cases_lt x.0 1)
-counted_told s B h (Err f) e = number_tells s None [] [] 0 f B h (omega arith) (refl, refl, refl) (inl refl) e
+counted_told s B h (Err f) e = number_tells s None [] [] 0 f B h (refl, refl, refl) (inl refl) e
 
-opening_told : (s : List ℕ) → Bytes s → Opened s (opening s)
-opening_told s B =
+opening_told : (s : List ℕ) (r : Result (ℕ × ℕ) RunFault) → Bytes s → opening s ≡ r → Opened s r
+opening_told s r B e =
     ⊎_elim
-    (λ l. rw (lt-leb (length s) 65536 l) (inr (record { long = l; end = refl; nothing = (refl, refl) })))
-    (λ l. rw (le-leb (length s) 65536 l) (counted_told s B l (number_at s 0) refl))
+    (λ l. rw (← e, lt-leb (length s) 65536 l) (inr (record { long = l; end = refl; nothing = (refl, refl) })))
+    (λ l. rw (← e, le-leb (length s) 65536 l) (counted_told s B l (number_at s 0) refl))
     (cases_lt 65536 (length s))
 
 opening_number : (s : List ℕ) (r : Answer ℕ) → length s ≤ 65536 → number_at s 0 ≡ r → opening s ≡ counted r
@@ -106,12 +110,12 @@ Course s r sections es = Uncounted s r sections es ⊎ Counted s r sections es
 
 -- What a sheet tells is what is answered.
 
-pub sofar_opened : (s : List ℕ) (n q p : ℕ) (es : List SectionEvent) → Bytes s → Sofar s n q p es → Opened s (Ok (n, q))
-sofar_opened s n q p es B h = subst (Opened s) h.opened (opening_told s B)
+pub sofar_opened : {s : List ℕ} {n q p : ℕ} {es : List SectionEvent} → Bytes s → Sofar s n q p es → Opened s (Ok (n, q))
+sofar_opened B h = opening_told _ _ B h.opened
 
 -- the count and the events stand one after another
-pub sofar_whole : (s : List ℕ) (n q p : ℕ) (es : List SectionEvent) → Bytes s → Sofar s n q p es → Stands s 0 p (written_sheet n es)
-sofar_whole s n q p es B h = stands_join (sofar_opened s n q p es B h).2 h.stands
+pub sofar_whole : {s : List ℕ} {n q p : ℕ} {es : List SectionEvent} → Bytes s → Sofar s n q p es → Stands s 0 p (written_sheet n es)
+sofar_whole B h = stands_join (sofar_opened B h).2 h.stands
 
 -- an event that stops has begun, or the sheet goes on
 something_left : (s : List ℕ) (p o : ℕ) (ns : List ℕ) → p < length s → Stands s p o (flat_map written_number ns) → 0 < length ns + length (drop o s)
@@ -122,17 +126,17 @@ event_stops :
     (s : List ℕ) (n q p : ℕ) (es : List SectionEvent) (f : ReadFault)
     → Bytes s → Sofar s n q p es → p < length s → event_at s p ≡ Err f → StopsFor f.reason s f.offset (Some n) es
 event_stops s n q p es f B h l e =
-    let o = sofar_opened s n q p es B h in
+    let o = sofar_opened B h in
     let t = event_told s p (Err f) B (omega arith) e in
     let within : t.place ≤ length s = stands_within (omega arith) t.stands in
     let u : ReadUpTo s t.place n es t.numbers = record {
       sections = o.1;
       proper = h.proper;
       begun = wants_begun t.numbers t.wants;
-      stands = stands_join (sofar_whole s n q p es B h) t.stands;
+      stands = stands_join (sofar_whole B h) t.stands;
     } in
     ⊎_elim
-    (λ c. number_tells s (Some n) es t.numbers t.place f B o.0 within u (inr (something_left s p t.place t.numbers l t.stands)) c)
+    (λ c. number_tells s (Some n) es t.numbers t.place f B o.0 u (inr (something_left s p t.place t.numbers l t.stands)) c)
     (λ c.
     let w = number_wrote s t.place c.1 c.0 B within c.2 in
     rw c.3
@@ -152,16 +156,14 @@ event_stops s n q p es f B h l e =
 pub course_tells : (s : List ℕ) (r : Outcome) (c : Option ℕ) (es : List SectionEvent) → Bytes s → Course s r c es → Tells s r c es
 course_tells s r c es B t =
     ⊎_elim
-    (λ u.
-    let told : Tells s (Err u.why) None [] = subst (Opened s) u.opened (opening_told s B) in
-    rw (u.answer, u.nothing.0, u.nothing.1) told)
+    (λ u. rw (u.answer, u.nothing.0, u.nothing.1) (opening_told s (Err u.why) B u.opened))
     (λ d.
     let h = d.sofar in
-    let o = sofar_opened s d.n d.q d.p es B h in
+    let o = sofar_opened B h in
     ⊎_elim
     (λ e.
-    let whole = sofar_whole s d.n d.q d.p es B h in
-    let bytes = whole.bytes ∙ ap (λ l. written_sheet d.n es ++ l) (drop_all d.p s e.0) ∙ append-nil (written_sheet d.n es) in
+    let whole = sofar_whole B h in
+    let bytes = rw (drop_all d.p s e.0, append-nil) at whole.bytes in
     rw e.1 (d.n, d.counts, record { bytes = bytes; short = o.0; sections = o.1; proper = h.proper }))
     (λ e. rw (e.3, d.counts) (event_stops s d.n d.q d.p es e.0 B h e.1 e.2))
     d.ended)
@@ -172,12 +174,15 @@ course_tells s r c es B t =
 pub event_long : (e : SectionEvent) → 1 ≤ length (written_event e)
 event_long e = simp length-append (omega (arith, written_long (kind_number (kind_of e.event))))
 
+numbers_long : (ns : List ℕ) → length ns ≤ length (flat_map written_number ns)
+numbers_long [] = omega arith
+numbers_long (n ∷ ns) = simp length-append (omega (arith, written_long n, numbers_long ns))
+
 module _ (s : List ℕ) where
-  -- a fault at the section count
-  wanted_count : (p : ℕ) (es : List SectionEvent) (ns : List ℕ) (f : ReadFault) → length s ≤ 65536 → Wanted s p None es ns → number_at s p ≡ Err f → Course s (Err (Read f)) None es
-  wanted_count p es ns f h w e =
-      let first : number_at s 0 ≡ Err f = ap (number_at s) (sym w.0) ∙ e in
-      inl (record { why = Read f; answer = refl; opened = opening_number s (Err f) h first; nothing = (refl, w.1) })
+  sofar_read :
+      (n p : ℕ) (es : List SectionEvent) → length s ≤ 65536 → SectionCount n → AllByRecursion Proper es → Stands s 0 p (written_sheet n es)
+      → Sofar s n (0 + length (written_number n)) p es
+  sofar_read n p es h c i t = record { opened = opening_reads s n _ h c (stands_front _ _ t); proper = i; stands = stands_back _ _ t }
 
   module _ (o n : ℕ) (es : List SectionEvent) (ns : List ℕ) (h : length s ≤ 65536) (u : ReadUpTo s o n es ns) where
     whole : Stands s 0 (0 + length (written_sheet n es)) (written_sheet n es)
@@ -186,24 +191,13 @@ module _ (s : List ℕ) where
     begun : Stands s (0 + length (written_sheet n es)) o (flat_map written_number ns)
     begun = stands_back _ _ u.stands
 
-    sofar : Sofar s n (0 + length (written_number n)) (0 + length (written_sheet n es)) es
-    sofar = record {
-      opened = opening_reads s n _ h u.sections (stands_front _ _ whole);
-      proper = u.proper;
-      stands = stands_back _ _ whole;
-    }
-
     inside_event : 0 < length ns + length (drop o s) → 0 + length (written_sheet n es) < length s
     inside_event i =
         let within : o ≤ length s = stands_within (omega arith) u.stands in
-        left_of ns begun i
-      where
-        left_of : (ms : List ℕ) → Stands s (0 + length (written_sheet n es)) o (flat_map written_number ms) → 0 < length ms + length (drop o s) → 0 + length (written_sheet n es) < length s
-        left_of [] t j = let same : o ≡ 0 + length (written_sheet n es) = t.after ∙ add-zero _ in omega (arith, length-drop o s)
-        left_of (m ∷ ms) t j = stands_inside t (simp length-append (omega (arith, written_long m)))
+        omega (arith, numbers_long ns, begun.after, length-drop o s)
 
     stopped : (f : ReadFault) → 0 < length ns + length (drop o s) → event_at s (0 + length (written_sheet n es)) ≡ Err f → Course s (Err (Read f)) (Some n) es
-    stopped f i e = inr (record { n = n; q = _; p = _; counts = refl; sofar = sofar; ended = inr (f, inside_event i, e, refl) })
+    stopped f i e = inr (record { n = n; q = _; p = _; counts = refl; sofar = sofar_read n _ es h u.sections u.proper whole; ended = inr (f, inside_event i, e, refl) })
 
     number_fault : (f : ReadFault) → number_at s o ≡ Err f → 0 < length ns + length (drop o s) → Course s (Err (Read f)) (Some n) es
     number_fault f e i = stopped f i (number_stops s _ o ns f u.begun begun e)
@@ -220,46 +214,41 @@ malformed_some {bs} m =
     m
 
 module _ (s : List ℕ) where
+  wanted_fault :
+      (o : ℕ) (c : Option ℕ) (es : List SectionEvent) (ns : List ℕ) (f : ReadFault)
+      → length s ≤ 65536 → Wanted s o c es ns → (c ≡ None) ⊎ (0 < length ns + length (drop o s)) → number_at s o ≡ Err f → Course s (Err (Read f)) c es
+  wanted_fault o None es ns f h w i e =
+      inl (record { why = Read f; answer = refl; opened = opening_number s (Err f) h (rw w.0 at e); nothing = (refl, w.1) })
+  wanted_fault o (Some n) es ns f h w i e = number_fault s o n es ns h w f e (⊎_elim (λ z. cc) (λ z. z) i)
+
   stops_course : (reason : Reason) (o : ℕ) (c : Option ℕ) (es : List SectionEvent) → StopsFor reason s o c es → Course s (Err (Read (fault reason o))) c es
-  stops_course Ends o None es t =
-      wanted_count s o es t.numbers (fault Ends o) t.short t.wanted (cut_ends s o (omega (arith, t.wanted.0)) t.cut)
-  stops_course Ends o (Some n) es t =
-      let within : o ≤ length s = stands_within (omega arith) t.wanted.stands in
-      let left : 0 < length t.numbers + length (drop o s) = ⊎_elim (λ e. cc) (λ i. i) t.inside in
-      number_fault s o n es t.numbers t.short t.wanted (fault Ends o) (cut_ends s o within t.cut) left
-  stops_course Form o None es t =
-      wanted_count s t.place es t.numbers (fault Form o) t.short t.wanted (malformed_stops s t.place o (omega (arith, t.wanted.0)) t.malformed)
-  stops_course Form o (Some n) es t =
-      let within : t.place ≤ length s = stands_within (omega arith) t.wanted.stands in
-      number_fault s t.place n es t.numbers t.short t.wanted (fault Form o) (malformed_stops s t.place o within t.malformed) (omega (arith, malformed_some t.malformed))
+  stops_course Ends o c es t =
+      wanted_fault o c es t.numbers _ t.short t.wanted t.inside (cut_ends s o (wanted_within s o c es t.numbers t.wanted) t.cut)
+  stops_course Form o c es t =
+      let within = wanted_within s t.place c es t.numbers t.wanted in
+      wanted_fault t.place c es t.numbers _ t.short t.wanted (inr (omega (arith, malformed_some t.malformed))) (malformed_stops s t.place o within t.malformed)
   stops_course Value o c es t =
       ⊎_elim
       (λ v.
       let at = begins_stands v.begins in
-      subst (λ d. Course s (Err (Read (fault Value o))) d es) (sym v.counted)
+      rw v.counted
       (value_fault s o v.count es v.numbers v.short v.read v.number _ (number_reads s o _ v.number v.fits at) v.fits v.stuck (stands_inside at (written_long v.number))))
-      (λ l.
-      rw l.end (inl (record { why = Read (fault Value 65536); answer = refl; opened = rw (lt-leb (length s) 65536 l.long); nothing = l.nothing })))
+      (λ l. rw l.end (inl (record { why = Read (fault Value 65536); answer = refl; opened = rw (lt-leb (length s) 65536 l.long); nothing = l.nothing })))
       t
 
   sheet_course : (n : ℕ) (es : List SectionEvent) → Sheet s n es → Course s (Ok tt) (Some n) es
   sheet_course n es h =
-      let all = stands_whole s (written_sheet n es) h.bytes in
       inr (record {
         n = n;
         q = _;
         p = length s;
         counts = refl;
-        sofar = record {
-          opened = opening_reads s n _ h.short h.sections (stands_front _ _ all);
-          proper = h.proper;
-          stands = stands_back _ _ all;
-        };
+        sofar = sofar_read s n _ es h.short h.sections h.proper (stands_whole s (written_sheet n es) h.bytes);
         ended = inl (omega arith, refl);
       })
 
   pub tells_course : (r : Outcome) (c : Option ℕ) (es : List SectionEvent) → Tells s r c es → (r ≡ Err Memory) ⊎ Course s r c es
-  tells_course (Ok x) c es t = inr (subst (λ d. Course s (Ok tt) d es) (sym t.1) (sheet_course t.0 es t.2))
+  tells_course (Ok x) c es t = inr (rw t.1 (sheet_course t.0 es t.2))
   tells_course (Err (Read f)) c es t = inr (stops_course f.reason f.offset c es t)
   tells_course (Err Sections) c es t =
       inr (inl (record {
