@@ -263,23 +263,14 @@ module _ (s : List ℕ) where
 
 module _ (s : List ℕ) where
   ended_one : (p : ℕ) (r t : Outcome) → Ended s p r → Ended s p t → r ≡ t
-  ended_one p r t a b =
-      ⊎_elim
-      (λ x. ⊎_elim (λ y. x.1 ∙ sym y.1) (λ y. absurd (omega (arith, x.0, y.1))) b)
-      (λ x.
-      ⊎_elim
-      (λ y. absurd (omega (arith, x.1, y.0)))
-      (λ y. cc (x.2, x.3, y.2, y.3))
-      b)
-      a
+  ended_one p r t a b = grind arith
 
   -- reading does not end where an event stands
   ended_event : (p q : ℕ) (r : Outcome) (e : SectionEvent) → Proper e → Stands s p q (written_event e) → Ended s p r → ⊥
   ended_event p q r e h t d =
-      ⊎_elim
-      (λ x. omega (arith, x.0, stands_inside t (event_long e)))
-      (λ x. cc (x.2, event_reads e s p q h t))
-      d
+      let inside = stands_inside t (event_long e) in
+      let read = event_reads e s p q h t in
+      grind arith
 
   -- the same events are read up to where reading ends
   events_one :
@@ -288,40 +279,34 @@ module _ (s : List ℕ) where
       → Stands s p u (flat_map written_event ds) → AllByRecursion Proper ds → Ended s u t
       → (r ≡ t) × (es ≡ ds)
   events_one [] [] p q u r t a i x b j y =
-      let same : q ≡ u = a.after ∙ sym b.after in
-      (ended_one u r t (subst (λ z. Ended s z r) same x) y, refl)
+      let same : q ≡ u = omega arith in
+      (ended_one u r t (rw same at x) y, refl)
   events_one [] (d ∷ ds) p q u r t a i x b j y =
-      let same : q ≡ p = a.after ∙ add-zero p in
-      absurd (ended_event p _ r d j.0 (stands_front _ _ b) (subst (λ z. Ended s z r) same x))
+      let same : q ≡ p = omega arith in
+      absurd (ended_event p _ r d j.0 (stands_front _ _ b) (rw same at x))
   events_one (e ∷ es) [] p q u r t a i x b j y =
-      let same : u ≡ p = b.after ∙ add-zero p in
-      absurd (ended_event p _ t e i.0 (stands_front _ _ a) (subst (λ z. Ended s z t) same y))
+      let same : u ≡ p = omega arith in
+      absurd (ended_event p _ t e i.0 (stands_front _ _ a) (rw same at y))
   events_one (e ∷ es) (d ∷ ds) p q u r t a i x b j y =
       let m = event_reads e s p _ i.0 (stands_front _ _ a) in
       let n = event_reads d s p _ j.0 (stands_front _ _ b) in
-      let same : ◌≡◌ {A = SectionEvent × ℕ} (e, p + length (written_event e)) (d, p + length (written_event d)) = cc in
-      let rest =
-      events_one es ds (p + length (written_event e)) q u r t
-      (stands_back _ _ a) i.1 x
-      (subst (λ z. Stands s z u (flat_map written_event ds)) (sym (ap (λ z. z.1) same)) (stands_back _ _ b)) j.1 y in
-      (rest.0, λ k. (same k).0 ∷ rest.1 k)
+      let same : ◌≡◌ {A = SectionEvent × ℕ} (d, p + length (written_event d)) (e, p + length (written_event e)) = cc in
+      let first : d ≡ e = λ k. (same k).0 in
+      let rest = events_one es ds _ q u r t (stands_back _ _ a) i.1 x (stands_back (written_event e) _ (rw first at b)) j.1 y in
+      (rest.0, cc (first, rest.1))
 
   pub course_one : (r t : Outcome) (c d : Option ℕ) (es ds : List SectionEvent) → Course s r c es → Course s t d ds → (r ≡ t) × (c ≡ d) × (es ≡ ds)
   course_one r t c d es ds a b =
       ⊎_elim
-      (λ x.
-      ⊎_elim
-      (λ y. (cc, cc, cc))
-      (λ y. absurd (cc (x.opened, y.sofar.opened)))
-      b)
+      (λ x. ⊎_elim (λ y. (cc, cc, cc)) (λ y. absurd (cc (x.opened, y.sofar.opened))) b)
       (λ x.
       ⊎_elim
       (λ y. absurd (cc (y.opened, x.sofar.opened)))
       (λ y.
-      let same : ◌≡◌ {A = ℕ × ℕ} (x.n, x.q) (y.n, y.q) = cc (x.sofar.opened, y.sofar.opened) in
-      let rest =
-      events_one es ds x.q x.p y.p r t x.sofar.stands x.sofar.proper x.ended
-      (subst (λ z. Stands s z y.p (flat_map written_event ds)) (sym (ap (λ z. z.1) same)) y.sofar.stands) y.sofar.proper y.ended in
-      (rest.0, x.counts ∙ ap (λ z. Some z.0) same ∙ sym y.counts, rest.1))
+      let same : ◌≡◌ {A = ℕ × ℕ} (y.n, y.q) (x.n, x.q) = cc (x.sofar.opened, y.sofar.opened) in
+      let count : y.n ≡ x.n = λ k. (same k).0 in
+      let place : y.q ≡ x.q = λ k. (same k).1 in
+      let rest = events_one es ds x.q x.p y.p r t x.sofar.stands x.sofar.proper x.ended (rw place at y.sofar.stands) y.sofar.proper y.ended in
+      (rest.0, cc (x.counts, y.counts, count), rest.1))
       b)
       a
