@@ -1,7 +1,8 @@
 -- A sheet is told in one way, and each answer is what its bytes are. Assumes nothing.
-use Rattle.std.proofs.Common.{◌≡◌, ℕ, ◌+◌, ◌<◌, ◌≤◌, ◌⊎◌, List, [], ◌∷◌, ◌++◌, length, drop, Some, None, Ok, Err, Option, Result, sym, refl, ap, ◌∙◌, subst, inl, inr, ⊎_elim, append-nil, add-zero, arith}
+use Rattle.std.proofs.Common.{◌≡◌, ℕ, ◌+◌, ◌<◌, ◌≤◌, ◌⊎◌, ◌&&◌, leb, List, [], ◌∷◌, ◌++◌, length, drop, Some, None, Ok, Err, Option, Result, sym, refl, ap, ◌∙◌, subst, inl, inr, ⊎_elim, append-nil, add-zero, arith}
 use Rattle.std.proofs.lemmas.List.{length-append, length-drop, drop_all, drop_at, drop-drop}
-use Rattle.std.proofs.lemmas.Bool.{cases_lt, le-leb, lt-leb}
+use Rattle.std.proofs.lemmas.Bool.{cases_Bool, cases_lt, le-leb, lt-leb}
+use Rattle.std.proofs.lemmas.Bool.Decides.{nat_tests}
 use Rattle.std.specs.List.{flat_map, AllByRecursion}
 use Rattle.events.specs.declared.event.SectionEvent.{SectionEvent}
 use Rattle.events.specs.Written.{kind_of, written_event, written_number, written_sheet, Proper}
@@ -41,19 +42,20 @@ number_tells s c es ns o f B h u i e =
     (λ t. rw t.1 (record { short = h; numbers = ns; place = o; wanted = u; malformed = t.2 }))
     (number_told s o (Err f) B (wanted_within s o c es ns u) e)
 
+count_or_not : (n q : ℕ) → (SectionCount n × (counted (Ok (n, q)) ≡ Ok (n, q))) ⊎ ((SectionCount n → ⊥) × (counted (Ok (n, q)) ≡ Err Sections))
+count_or_not n q =
+    ⊎_elim
+    (λ t. inl (record { some = grind (arith, nat_tests); few = grind (arith, nat_tests) }, rw t))
+    (λ t. inr (λ c. grind (arith, nat_tests), rw t))
+    (cases_Bool (leb 1 n && leb n 8))
+
 counted_told : (s : List ℕ) → Bytes s → length s ≤ 65536 → (r : Answer ℕ) → number_at s 0 ≡ r → Opened s (counted r)
 counted_told s B h (Ok x) e =
     let w = number_wrote s 0 x.1 x.0 B (omega arith) e in
-    let bad : (SectionCount x.0 → ⊥) → Opened s (Err Sections) =
-    λ out. record { short = h; number = x.0; fits = w.1; begins = stands_begins w.0; outside = out; nothing = (refl, refl) } in
     ⊎_elim
-    (λ l. rw (lt-leb 1 x.0 l) (bad (λ c. omega (arith, c.some))))
-    (λ l.
-    ⊎_elim
-    (λ m. rw (le-leb 1 x.0 l, lt-leb x.0 8 m) (bad (λ c. omega (arith, c.few))))
-    (λ m. rw (le-leb 1 x.0 l, le-leb x.0 8 m) (h, record { some = l; few = m }, w.0))
-    (cases_lt 8 x.0))
-    (cases_lt x.0 1)
+    (λ t. rw t.1 (h, t.0, w.0))
+    (λ t. rw t.1 (record { short = h; number = x.0; fits = w.1; begins = stands_begins w.0; outside = t.0; nothing = (refl, refl) }))
+    (count_or_not x.0 x.1)
 counted_told s B h (Err f) e = number_tells s None [] [] 0 f B h (refl, refl, refl) (inl refl) e
 
 opening_told : (s : List ℕ) (r : Result (ℕ × ℕ) RunFault) → Bytes s → opening s ≡ r → Opened s r
@@ -71,12 +73,7 @@ opening_reads s n q h c t =
     opening_number s (Ok (n, q)) h (number_reads s 0 q n (omega (arith, c.few)) t) ∙ rw (le-leb 1 n c.some, le-leb n 8 c.few)
 
 opening_miscounts : (s : List ℕ) (n q : ℕ) → length s ≤ 65536 → number_at s 0 ≡ Ok (n, q) → (SectionCount n → ⊥) → opening s ≡ Err Sections
-opening_miscounts s n q h e out =
-    opening_number s (Ok (n, q)) h e
-    ∙ ⊎_elim
-    (λ l. rw (lt-leb 1 n l))
-    (λ l. ⊎_elim (λ m. rw (le-leb 1 n l, lt-leb n 8 m)) (λ m. absurd (out (record { some = l; few = m }))) (cases_lt 8 n))
-    (cases_lt n 1)
+opening_miscounts s n q h e out = opening_number s (Ok (n, q)) h e ∙ ⊎_elim (λ t. absurd (out t.0)) (λ t. t.1) (count_or_not n q)
 
 -- How reading goes.
 
@@ -119,7 +116,7 @@ sofar_whole B h = stands_join (sofar_opened B h).2 h.stands
 
 -- an event that stops has begun, or the sheet goes on
 something_left : (s : List ℕ) (p o : ℕ) (ns : List ℕ) → p < length s → Stands s p o (flat_map written_number ns) → 0 < length ns + length (drop o s)
-something_left s p o [] h t = let same : o ≡ p = t.after ∙ add-zero p in omega (arith, length-drop o s)
+something_left s p o [] h t = omega (arith, length-drop o s)
 something_left s p o (n ∷ ns) h t = omega arith
 
 event_stops :
