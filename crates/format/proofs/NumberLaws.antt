@@ -1,6 +1,7 @@
 -- What is answered at a number is what stands there. Assumes nothing.
 use Rattle.std.proofs.Common.{◌≡◌, ℕ, suc, ◌+◌, ◌-◌, ◌*◌, ◌/◌, ◌%◌, ◌<◌, ◌≤◌, ◌⊎◌, List, [], ◌∷◌, ◌++◌, length, drop, Ok, Err, sym, refl, ap, ◌∙◌, subst, inl, inr, ⊎_elim, arith}
 use Rattle.std.proofs.lemmas.List.{drop_all, drop_at, drop-drop, get_or-drop, length-append}
+use Rattle.std.proofs.lemmas.Bool.Decides.{nat_tests}
 use Rattle.std.proofs.lemmas.Bool.{cases_lt, cases_eq, lt-ltb, le-ltb, le-leb, lt-leb, eq-eqb, ne_eqb}
 use Rattle.events.specs.Written.{written_number}
 use Rattle.format.specs.declared.fault.Reason.TheVariants.{Ends, Form}
@@ -26,46 +27,21 @@ by_length n P one two three =
     ⊎_elim one (λ l. ⊎_elim (two l) three (cases_lt n 16384)) (cases_lt n 128)
 
 pub written_long : (n : ℕ) → 1 ≤ length (written_number n)
-written_long n =
-    by_length n (1 ≤ length (written_number n))
-    (λ l. rw (one_byte n l) (omega arith))
-    (λ l m. rw (two_bytes n l m) (omega arith))
-    (λ l. rw (three_bytes n l) (omega arith))
+written_long n = grind (arith, nat_tests)
 
 -- a sheet's bytes from p on, which may be none
 pub from_first : (s : List ℕ) (p : ℕ) → p ≤ length s → number_at s p ≡ first_byte p (drop p s)
-from_first s p h =
-    ⊎_elim
-    (λ l. rw (lt-ltb p (length s) l))
-    (λ l. let same : length s ≡ p = omega arith in rw (le-ltb p (length s) l, drop_all p s l, same))
-    (cases_lt p (length s))
+from_first s p h = grind (arith, nat_tests, drop_all)
 
 -- What stands at a number is answered.
 
 third_reads :
     (n p : ℕ) (rest : List ℕ) → 16384 ≤ n → n < 2097152
     → first_byte p (written_number n ++ rest) ≡ third_byte p (n / 128) ((n % 128) ∷ rest)
-third_reads n p rest m h =
-    let big : 128 ≤ 128 + n / 16384 = omega arith in
-    let other : 128 + n / 16384 ≡ 128 → ⊥ = λ e. omega arith in
-    let more : 128 ≤ 128 + n / 128 % 128 = omega arith in
-    let value : (128 + n / 16384 - 128) * 128 + (128 + n / 128 % 128 - 128) ≡ n / 128 = omega arith in
-    rw (three_bytes n m, le-ltb (128 + n / 16384) 128 big, ne_eqb (128 + n / 16384) 128 other, le-ltb (128 + n / 128 % 128) 128 more, value)
+third_reads n p rest m h = rw (three_bytes n m) (grind (arith, nat_tests))
 
 first_reads : (n p : ℕ) (rest : List ℕ) → n ≤ 65535 → first_byte p (written_number n ++ rest) ≡ Ok (n, p + length (written_number n))
-first_reads n p rest h =
-    by_length n (first_byte p (written_number n ++ rest) ≡ Ok (n, p + length (written_number n)))
-    (λ l. rw (one_byte n l, lt-ltb n 128 l))
-    (λ l m.
-    let big : 128 ≤ 128 + n / 128 = omega arith in
-    let other : 128 + n / 128 ≡ 128 → ⊥ = λ e. omega arith in
-    let low : n % 128 < 128 = omega arith in
-    let value : (128 + n / 128 - 128) * 128 + n % 128 ≡ n = omega arith in
-    rw (two_bytes n l m, le-ltb (128 + n / 128) 128 big, ne_eqb (128 + n / 128) 128 other, lt-ltb (n % 128) 128 low, value))
-    (λ m.
-    let low : n % 128 < 128 = omega arith in
-    let value : n / 128 * 128 + n % 128 ≡ n = omega arith in
-    third_reads n p rest m (omega arith) ∙ rw (lt-ltb (n % 128) 128 low, value, le-leb n 65535 h, three_bytes n m))
+first_reads n p rest h = grind (arith, nat_tests)
 
 pub number_reads : (s : List ℕ) (p q n : ℕ) → n ≤ 65535 → Stands s p q (written_number n) → number_at s p ≡ Ok (n, q)
 number_reads s p q n h a = rw (lt-ltb p (length s) (stands_inside a (written_long n)), a.bytes, a.after) (first_reads n p _ h)
