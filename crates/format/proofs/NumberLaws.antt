@@ -48,37 +48,9 @@ number_reads s p q n h a = rw (lt-ltb p (length s) (stands_inside a (written_lon
 
 cut_reads : (p : ℕ) (bs : List ℕ) → Cut bs → first_byte p bs ≡ Err (fault Ends p)
 cut_reads p [] c = refl
-cut_reads p (a ∷ []) c =
-    let n = c.number in
-    let high : 128 < a =
-    by_length n (128 < a)
-    (λ l. absurd (omega (arith, ap length (c.whole ∙ one_byte n l))))
-    (λ l m. let e = c.whole ∙ two_bytes n l m in let f : a ≡ 128 + n / 128 = cc in omega arith)
-    (λ l. let e = c.whole ∙ three_bytes n l in let f : a ≡ 128 + n / 16384 = cc in omega arith) in
-    let big : 128 ≤ a = omega arith in
-    let other : a ≡ 128 → ⊥ = λ e. omega arith in
-    rw (le-ltb a 128 big, ne_eqb a 128 other)
-cut_reads p (a ∷ b ∷ []) c =
-    let n = c.number in
-    let high : (128 < a) × (128 ≤ b) =
-    by_length n ((128 < a) × (128 ≤ b))
-    (λ l. absurd (omega (arith, ap length (c.whole ∙ one_byte n l))))
-    (λ l m. absurd (omega (arith, ap length (c.whole ∙ two_bytes n l m))))
-    (λ l.
-    let e = c.whole ∙ three_bytes n l in
-    let f : a ≡ 128 + n / 16384 = cc in
-    let g : b ≡ 128 + n / 128 % 128 = cc in
-    (omega arith, omega arith)) in
-    let big : 128 ≤ a = omega arith in
-    let more : 128 ≤ b = high.1 in
-    let other : a ≡ 128 → ⊥ = λ e. omega arith in
-    rw (le-ltb a 128 big, ne_eqb a 128 other, le-ltb b 128 more)
-cut_reads p (a ∷ b ∷ d ∷ ds) c =
-    let n = c.number in
-    by_length n (first_byte p (a ∷ b ∷ d ∷ ds) ≡ Err (fault Ends p))
-    (λ l. absurd (omega (arith, simp length-append at (ap length (c.whole ∙ one_byte n l)))))
-    (λ l m. absurd (omega (arith, simp length-append at (ap length (c.whole ∙ two_bytes n l m)))))
-    (λ l. absurd (omega (arith, simp length-append at (ap length (c.whole ∙ three_bytes n l)))))
+cut_reads p (a ∷ []) c = let e = c.whole in grind (arith, nat_tests)
+cut_reads p (a ∷ b ∷ []) c = let e = c.whole in grind (arith, nat_tests)
+cut_reads p (a ∷ b ∷ d ∷ ds) c = let e = simp length-append at (ap length c.whole) in grind (arith, nat_tests)
 
 pub cut_ends : (s : List ℕ) (p : ℕ) → p ≤ length s → Cut (drop p s) → number_at s p ≡ Err (fault Ends p)
 cut_ends s p h c = from_first s p h ∙ cut_reads p (drop p s) c
@@ -86,21 +58,8 @@ cut_ends s p h c = from_first s p h ∙ cut_reads p (drop p s) c
 malformed_reads : (p o : ℕ) (bs : List ℕ) → Malformed bs p o → first_byte p bs ≡ Err (fault Form o)
 malformed_reads p o bs m =
     ⊎_elim
-    (λ x. rw x.0
-    (⊎_elim
-    (λ y. rw y.1)
-    (λ y.
-    let big : 128 ≤ y.one = omega (arith, y.high_one) in
-    let other : y.one ≡ 128 → ⊥ = λ e. omega (arith, y.high_one) in
-    rw (y.whole, le-ltb y.one 128 big, ne_eqb y.one 128 other, le-ltb y.two 128 y.high_two, le-ltb y.three 128 y.high_three))
-    x.1))
-    (λ x.
-    let n = x.1.number in
-    let large : 16384 ≤ n = omega (arith, x.1.large) in
-    let low : n % 128 < 128 = omega arith in
-    let value : n / 128 * 128 + n % 128 ≡ n = omega arith in
-    rw (x.0, x.1.begins.whole)
-    (third_reads n p x.1.begins.rest large x.1.three_bytes ∙ rw (lt-ltb (n % 128) 128 low, value, lt-leb n 65535 x.1.large)))
+    (λ x. rw x.0 (⊎_elim (λ y. rw y.1) (λ y. let i = y.high_one in let j = y.high_two in let k = y.high_three in rw y.whole (grind (arith, nat_tests))) x.1))
+    (λ x. let i = x.1.large in let j = x.1.three_bytes in rw (x.0, x.1.begins.whole) (grind (arith, nat_tests)))
     m
 
 pub malformed_stops : (s : List ℕ) (p o : ℕ) → p ≤ length s → Malformed (drop p s) p o → number_at s p ≡ Err (fault Form o)
