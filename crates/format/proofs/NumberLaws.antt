@@ -9,23 +9,6 @@ use Rattle.format.specs.Numbers.{Answer, Bytes, fault, first_byte, number_at, se
 use Rattle.format.specs.Sheets.{Begins, Cut, Malformed, Stands}
 use Rattle.format.proofs.Standing.{begins_stands, stands_inside}
 
--- the written form, by its length
-one_byte : (n : ℕ) → n < 128 → written_number n ≡ n ∷ []
-one_byte n h = rw (lt-ltb n 128 h)
-
-two_bytes : (n : ℕ) → 128 ≤ n → n < 16384 → written_number n ≡ (128 + n / 128) ∷ (n % 128) ∷ []
-two_bytes n h k = rw (le-ltb n 128 h, lt-ltb n 16384 k)
-
-three_bytes : (n : ℕ) → 16384 ≤ n → written_number n ≡ (128 + n / 16384) ∷ (128 + n / 128 % 128) ∷ (n % 128) ∷ []
-three_bytes n k = let h : 128 ≤ n = omega arith in rw (le-ltb n 128 h, le-ltb n 16384 k)
-
--- a number is written in one, two or three bytes
-by_length :
-    (n : ℕ) (P : Type 0)
-    → (n < 128 → P) → (128 ≤ n → n < 16384 → P) → (16384 ≤ n → P) → P
-by_length n P one two three =
-    ⊎_elim one (λ l. ⊎_elim (two l) three (cases_lt n 16384)) (cases_lt n 128)
-
 pub written_long : (n : ℕ) → 1 ≤ length (written_number n)
 written_long n = grind (arith, nat_tests)
 
@@ -34,11 +17,6 @@ pub from_first : (s : List ℕ) (p : ℕ) → p ≤ length s → number_at s p �
 from_first s p h = grind (arith, nat_tests, drop_all)
 
 -- What stands at a number is answered.
-
-third_reads :
-    (n p : ℕ) (rest : List ℕ) → 16384 ≤ n → n < 2097152
-    → first_byte p (written_number n ++ rest) ≡ third_byte p (n / 128) ((n % 128) ∷ rest)
-third_reads n p rest m h = rw (three_bytes n m) (grind (arith, nat_tests))
 
 first_reads : (n p : ℕ) (rest : List ℕ) → n ≤ 65535 → first_byte p (written_number n ++ rest) ≡ Ok (n, p + length (written_number n))
 first_reads n p rest h = grind (arith, nat_tests)
@@ -72,78 +50,62 @@ abbrev pub NumberTold : ℕ → List ℕ → Answer ℕ → Type 0
 NumberTold p bs (Ok x) = Begins bs x.0 × (x.0 ≤ 65535) × (x.1 ≡ p + length (written_number x.0))
 NumberTold p bs (Err f) = ((f ≡ fault Ends p) × Cut bs) ⊎ ((o : ℕ) × (f ≡ fault Form o) × Malformed bs p o)
 
--- any byte above 128 begins a number of two bytes, and goes on so to one of three
-cut_one : (a : ℕ) → 128 < a → a < 256 → Cut (a ∷ [])
-cut_one a h k =
-    let n : ℕ = (a - 128) * 128 in
-    let low : 128 ≤ n = omega arith in
-    let high : n < 16384 = omega arith in
-    let ea : 128 + n / 128 ≡ a = omega arith in
-    record { number = n; three_bytes = omega arith; next = n % 128; more = []; whole = sym (two_bytes n low high ∙ rw ea) }
+module _ (a : ℕ) (h : 128 < a) (k : a < 256) where
+  -- any byte above 128 begins a number of two bytes, and goes on so to one of three
+  two_are : (b : ℕ) → b < 128 → written_number ((a - 128) * 128 + b) ≡ a ∷ b ∷ []
+  two_are b l = grind (arith, nat_tests)
 
-module _ (a b : ℕ) (h : 128 < a) (k : a < 256) (i : 128 ≤ b) (j : b < 256) where
-  three_are : (c : ℕ) → c < 128 → written_number (((a - 128) * 128 + (b - 128)) * 128 + c) ≡ a ∷ b ∷ c ∷ []
-  three_are c l =
-      let n : ℕ = ((a - 128) * 128 + (b - 128)) * 128 + c in
-      let large : 16384 ≤ n = omega arith in
-      let ea : 128 + n / 16384 ≡ a = omega arith in
-      let eb : 128 + n / 128 % 128 ≡ b = omega arith in
-      let ec : n % 128 ≡ c = omega arith in
-      three_bytes n large ∙ rw (ea, eb, ec)
+  cut_one : Cut (a ∷ [])
+  cut_one = record { number = (a - 128) * 128 + 0; three_bytes = omega arith; next = 0; more = []; whole = sym (two_are 0 (omega arith)) }
 
-  cut_two : Cut (a ∷ b ∷ [])
-  cut_two = record {
-    number = ((a - 128) * 128 + (b - 128)) * 128 + 0;
-    three_bytes = omega arith;
-    next = 0;
-    more = [];
-    whole = sym (three_are 0 (omega arith));
-  }
+  module _ (b : ℕ) (i : 128 ≤ b) (j : b < 256) where
+    three_are : (c : ℕ) → c < 128 → written_number (((a - 128) * 128 + (b - 128)) * 128 + c) ≡ a ∷ b ∷ c ∷ []
+    three_are c l = grind (arith, nat_tests)
 
-  third_told : (p : ℕ) (cs : List ℕ) → NumberTold p (a ∷ b ∷ cs) (third_byte p ((a - 128) * 128 + (b - 128)) cs)
-  third_told p [] = inl (refl, cut_two)
-  third_told p (c ∷ cs) =
-      let n : ℕ = ((a - 128) * 128 + (b - 128)) * 128 + c in
+    cut_two : Cut (a ∷ b ∷ [])
+    cut_two = record {
+      number = ((a - 128) * 128 + (b - 128)) * 128 + 0;
+      three_bytes = omega arith;
+      next = 0;
+      more = [];
+      whole = sym (three_are 0 (omega arith));
+    }
+
+    third_told : (p : ℕ) (cs : List ℕ) → NumberTold p (a ∷ b ∷ cs) (third_byte p ((a - 128) * 128 + (b - 128)) cs)
+    third_told p [] = inl (refl, cut_two)
+    third_told p (c ∷ cs) =
+        let n : ℕ = ((a - 128) * 128 + (b - 128)) * 128 + c in
+        ⊎_elim
+        (λ l.
+        let is : written_number n ≡ a ∷ b ∷ c ∷ [] = three_are c l in
+        let begun : Begins (a ∷ b ∷ c ∷ cs) n = record { rest = cs; whole = rw is } in
+        ⊎_elim
+        (λ m. let small : n ≤ 65535 = omega arith in rw (lt-ltb c 128 l, le-leb n 65535 small) (begun, small, rw is))
+        (λ m.
+        let big : 65535 < n = omega arith in
+        let three : n < 2097152 = omega arith in
+        rw (lt-ltb c 128 l, lt-leb n 65535 big) (inr (p + 2, refl, inr (refl, record { number = n; begins = begun; large = big; three_bytes = three }))))
+        (cases_lt n 65536))
+        (λ l. rw (le-ltb c 128 l) (inr (p, refl, inl (refl, inr (record { one = a; two = b; three = c; rest = cs; whole = refl; high_one = h; high_two = i; high_three = l })))))
+        (cases_lt c 128)
+
+  second_told : (p : ℕ) (bs : List ℕ) → Bytes bs → NumberTold p (a ∷ bs) (second_byte p (a - 128) bs)
+  second_told p [] B = inl (refl, cut_one)
+  second_told p (b ∷ bs) B =
       ⊎_elim
-      (λ l.
-      let is : written_number n ≡ a ∷ b ∷ c ∷ [] = three_are c l in
-      let begun : Begins (a ∷ b ∷ c ∷ cs) n = record { rest = cs; whole = rw is } in
-      ⊎_elim
-      (λ m. let small : n ≤ 65535 = omega arith in rw (lt-ltb c 128 l, le-leb n 65535 small) (begun, small, rw is))
-      (λ m.
-      let big : 65535 < n = omega arith in
-      let three : n < 2097152 = omega arith in
-      rw (lt-ltb c 128 l, lt-leb n 65535 big)
-      (inr (p + 2, refl, inr (refl, record { number = n; begins = begun; large = big; three_bytes = three }))))
-      (cases_lt n 65536))
-      (λ l. rw (le-ltb c 128 l) (inr (p, refl, inl (refl, inr (record { one = a; two = b; three = c; rest = cs; whole = refl; high_one = h; high_two = i; high_three = l })))))
-      (cases_lt c 128)
-
-second_told : (p a : ℕ) (bs : List ℕ) → 128 < a → a < 256 → Bytes bs → NumberTold p (a ∷ bs) (second_byte p (a - 128) bs)
-second_told p a [] h k B = inl (refl, cut_one a h k)
-second_told p a (b ∷ bs) h k B =
-    ⊎_elim
-    (λ l.
-    let n : ℕ = (a - 128) * 128 + b in
-    let low : 128 ≤ n = omega arith in
-    let high : n < 16384 = omega arith in
-    let ea : 128 + n / 128 ≡ a = omega arith in
-    let eb : n % 128 ≡ b = omega arith in
-    let is : written_number n ≡ a ∷ b ∷ [] = two_bytes n low high ∙ rw (ea, eb) in
-    let small : n ≤ 65535 = omega arith in
-    rw (lt-ltb b 128 l) (record { rest = bs; whole = rw is }, small, rw is))
-    (λ l. rw (le-ltb b 128 l) (third_told a b h k l (B 0) p bs))
-    (cases_lt b 128)
+      (λ l. let is = two_are b l in rw (lt-ltb b 128 l) (record { rest = bs; whole = rw is }, omega arith, rw is))
+      (λ l. rw (le-ltb b 128 l) (third_told b l (B 0) p bs))
+      (cases_lt b 128)
 
 first_told : (p : ℕ) (bs : List ℕ) → Bytes bs → NumberTold p bs (first_byte p bs)
 first_told p [] B = inl (refl, record { number = 0; three_bytes = omega arith; next = 0; more = []; whole = refl })
 first_told p (a ∷ bs) B =
     ⊎_elim
-    (λ l. rw (lt-ltb a 128 l) (record { rest = bs; whole = rw (one_byte a l) }, omega arith, rw (one_byte a l)))
+    (λ l. let is : written_number a ≡ a ∷ [] = rw (lt-ltb a 128 l) in rw (lt-ltb a 128 l) (record { rest = bs; whole = rw is }, omega arith, rw is))
     (λ l.
     ⊎_elim
     (λ z. rw (le-ltb a 128 l, eq-eqb a 128 z) (inr (p, refl, inl (refl, inl (bs, rw z)))))
-    (λ z. let more : 128 < a = omega arith in rw (le-ltb a 128 l, ne_eqb a 128 z) (second_told p a bs more (B 0) (λ k. B (suc k))))
+    (λ z. rw (le-ltb a 128 l, ne_eqb a 128 z) (second_told a (omega arith) (B 0) p bs (λ k. B (suc k))))
     (cases_eq a 128))
     (cases_lt a 128)
 

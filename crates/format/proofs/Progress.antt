@@ -3,6 +3,7 @@ use Rattle.std.proofs.Common.{◌≡◌, ℕ, ◌+◌, ◌<◌, ◌≤◌, ◌�
 use Rattle.std.proofs.ByRecursion.{All-push}
 use Rattle.std.proofs.lemmas.List.{length-append, flat_map_more}
 use Rattle.std.proofs.lemmas.Bool.{cases_lt, le-leb, le-ltb, lt-leb, lt-ltb}
+use Rattle.std.proofs.lemmas.Bool.Decides.{nat_tests}
 use Rattle.std.specs.List.{flat_map}
 use Rattle.events.specs.declared.event.LocatedEvent.{LocatedEvent}
 use Rattle.events.specs.declared.event.SectionEvent.{SectionEvent}
@@ -31,14 +32,11 @@ placed_some : (p q : ℕ) (r : Answer SectionEvent) (v : LocatedEvent) → place
 placed_some p q (Ok x) v e =
     let same : ◌≡◌ {A = Option LocatedEvent × ℕ} (Some (at_place p x.0), x.1) (Some v, q) = cc in
     let one : at_place p x.0 ≡ v = let z = ap (λ y. y.0) same in cc in
-    (sym (ap (λ y. y.offset) one), λ i. Ok ((one i).told, (same i).1))
+    (cc (one), λ i. Ok ((one i).told, (same i).1))
 placed_some p q (Err f) v e = absurd (cc)
 
 placed_none : (p q : ℕ) (r : Answer SectionEvent) → placed p r ≡ Ok (None, q) → ⊥
-placed_none p q (Ok x) e =
-    let same : ◌≡◌ {A = Option LocatedEvent × ℕ} (Some (at_place p x.0), x.1) (None, q) = cc in
-    let other = ap (λ y. y.0) same in
-    cc
+placed_none p q (Ok x) e = grind arith
 placed_none p q (Err f) e = cc
 
 placed_err : (p : ℕ) (r : Answer SectionEvent) (f : ReadFault) → placed p r ≡ Err f → r ≡ Err f
@@ -47,11 +45,7 @@ placed_err p (Err g) f e = cc
 
 -- an event is wanted before the sheet's end, and none at it
 next_either : (s : List ℕ) (p : ℕ) → ((p < length s) × (next_at s p ≡ placed p (event_at s p))) ⊎ ((length s ≤ p) × (next_at s p ≡ Ok (None, p)))
-next_either s p =
-    ⊎_elim
-    (λ l. inl (l, rw (lt-ltb p (length s) l)))
-    (λ l. inr (l, rw (le-ltb p (length s) l)))
-    (cases_lt p (length s))
+next_either s p = grind (arith, nat_tests)
 
 -- What has been read.
 
