@@ -1,5 +1,5 @@
 -- What has been read of a sheet, event by event, and what is told where reading ends. Assumes nothing.
-use Rattle.std.proofs.Common.{◌≡◌, ℕ, ◌+◌, ◌<◌, ◌≤◌, ◌⊎◌, List, [], ◌∷◌, ◌++◌, length, Some, None, Ok, Err, Option, Result, sym, refl, ap, ◌∙◌, subst, inl, inr, ⊎_elim, add-zero, zero-add, arith}
+use Rattle.std.proofs.Common.{◌≡◌, ℕ, ◌+◌, ◌<◌, ◌≤◌, cond, ltb, List, [], ◌∷◌, ◌++◌, length, Some, None, Ok, Err, Option, Result, sym, refl, ap, ◌∙◌, subst, inl, inr, ⊎_elim, add-zero, zero-add, arith}
 use Rattle.std.proofs.ByRecursion.{All-push}
 use Rattle.std.proofs.lemmas.List.{length-append, flat_map_more}
 use Rattle.std.proofs.lemmas.Bool.{cases_lt, le-leb, le-ltb, lt-leb, lt-ltb}
@@ -25,27 +25,21 @@ use Rattle.format.proofs.Standing.{stands_join, stands_none}
 abbrev at_place : ℕ → SectionEvent → LocatedEvent
 at_place p e = record { offset = p; told = e }
 
-abbrev placed : ℕ → Answer SectionEvent → Answer (Option LocatedEvent)
-placed p r = and_then r (λ e q. Ok (Some (at_place p e), q))
+-- what is answered at p, where an event's answer is r: an event is wanted before the sheet's end, and none at it
+abbrev next : List ℕ → ℕ → Answer SectionEvent → Answer (Option LocatedEvent)
+next s p r = cond (ltb p (length s)) (and_then r (λ e q. Ok (Some (at_place p e), q))) (Ok (None, p))
 
-placed_some : (p q : ℕ) (r : Answer SectionEvent) (v : LocatedEvent) → placed p r ≡ Ok (Some v, q) → (v.offset ≡ p) × (r ≡ Ok (v.told, q))
-placed_some p q (Ok x) v e =
-    let same : ◌≡◌ {A = Option LocatedEvent × ℕ} (Some (at_place p x.0), x.1) (Some v, q) = cc in
-    let one : at_place p x.0 ≡ v = let z = ap (λ y. y.0) same in cc in
-    (cc (one), λ i. Ok ((one i).told, (same i).1))
-placed_some p q (Err f) v e = absurd (cc)
+next_some : (s : List ℕ) (p q : ℕ) (r : Answer SectionEvent) (v : LocatedEvent) → next s p r ≡ Ok (Some v, q) → (p < length s) × (v.offset ≡ p) × (r ≡ Ok (v.told, q))
+next_some s p q (Ok x) v e = grind (arith, nat_tests)
+next_some s p q (Err f) v e = grind (arith, nat_tests)
 
-placed_none : (p q : ℕ) (r : Answer SectionEvent) → placed p r ≡ Ok (None, q) → ⊥
-placed_none p q (Ok x) e = grind arith
-placed_none p q (Err f) e = cc
+next_none : (s : List ℕ) (p q : ℕ) (r : Answer SectionEvent) → next s p r ≡ Ok (None, q) → length s ≤ p
+next_none s p q (Ok x) e = grind (arith, nat_tests)
+next_none s p q (Err f) e = grind (arith, nat_tests)
 
-placed_err : (p : ℕ) (r : Answer SectionEvent) (f : ReadFault) → placed p r ≡ Err f → r ≡ Err f
-placed_err p (Ok x) f e = absurd (cc)
-placed_err p (Err g) f e = cc
-
--- an event is wanted before the sheet's end, and none at it
-next_either : (s : List ℕ) (p : ℕ) → ((p < length s) × (next_at s p ≡ placed p (event_at s p))) ⊎ ((length s ≤ p) × (next_at s p ≡ Ok (None, p)))
-next_either s p = grind (arith, nat_tests)
+next_err : (s : List ℕ) (p : ℕ) (r : Answer SectionEvent) (f : ReadFault) → next s p r ≡ Err f → (p < length s) × (r ≡ Err f)
+next_err s p (Ok x) f e = grind (arith, nat_tests)
+next_err s p (Err g) f e = grind (arith, nat_tests)
 
 -- What has been read.
 
@@ -77,18 +71,8 @@ next_wrote :
     (s : List ℕ) (n p r : ℕ) (vs : List LocatedEvent) (v : LocatedEvent)
     → Progress s n p vs → next_at s p ≡ Ok (Some v, r) → (p < length s) × (v.offset ≡ p) × (Stands s p r (written_event v.told) × Proper v.told)
 next_wrote s n p r vs v h e =
-    ⊎_elim
-    (λ x.
-    let d = placed_some p r (event_at s p) v (sym x.1 ∙ e) in
-    (x.0, d.0, event_wrote v.told s p r h.bytes (omega arith) d.1))
-    (λ x. absurd (none_some (sym x.1 ∙ e)))
-    (next_either s p)
-  where
-    none_some : {i j : ℕ} {u : LocatedEvent} → ◌≡◌ {A = Answer (Option LocatedEvent)} (Ok (None, i)) (Ok (Some u, j)) → ⊥
-    none_some {i} {j} {u} z =
-        let same : ◌≡◌ {A = Option LocatedEvent × ℕ} (None, i) (Some u, j) = cc in
-        let other = ap (λ y. y.0) same in
-        cc
+    let d = next_some s p r (event_at s p) v e in
+    (d.0, d.1, event_wrote v.told s p r h.bytes (omega arith) d.2)
 
 -- one event more, which lies further on
 pub more :
@@ -122,22 +106,15 @@ more s n p r vs v h e =
 
 pub told_end : (s : List ℕ) (n p r : ℕ) (vs : List LocatedEvent) → Progress s n p vs → next_at s p ≡ Ok (None, r) → Told s (Ok tt) (Some n) vs
 told_end s n p r vs h e =
-    ⊎_elim
-    (λ x. absurd (placed_none p r (event_at s p) (sym x.1 ∙ e)))
-    (λ x.
-    let course : Course s (Ok tt) (Some n) h.es = inr (record { n = n; q = h.q; p = p; counts = refl; sofar = h.sofar; ended = inl (x.0, refl) }) in
-    record { es = h.es; tells = course_tells s (Ok tt) (Some n) h.es h.bytes course; places = h.places })
-    (next_either s p)
+    let end = next_none s p r (event_at s p) e in
+    let course : Course s (Ok tt) (Some n) h.es = inr (record { n = n; q = h.q; p = p; counts = refl; sofar = h.sofar; ended = inl (end, refl) }) in
+    record { es = h.es; tells = course_tells s (Ok tt) (Some n) h.es h.bytes course; places = h.places }
 
 pub told_fault : (s : List ℕ) (n p : ℕ) (vs : List LocatedEvent) (f : ReadFault) → Progress s n p vs → next_at s p ≡ Err f → Told s (Err (Read f)) (Some n) vs
 told_fault s n p vs f h e =
-    ⊎_elim
-    (λ x.
-    let stops = placed_err p (event_at s p) f (sym x.1 ∙ e) in
-    let course : Course s (Err (Read f)) (Some n) h.es = inr (record { n = n; q = h.q; p = p; counts = refl; sofar = h.sofar; ended = inr (f, x.0, stops, refl) }) in
-    record { es = h.es; tells = course_tells s (Err (Read f)) (Some n) h.es h.bytes course; places = h.places })
-    (λ x. absurd (cc (e, x.1)))
-    (next_either s p)
+    let stops = next_err s p (event_at s p) f e in
+    let course : Course s (Err (Read f)) (Some n) h.es = inr (record { n = n; q = h.q; p = p; counts = refl; sofar = h.sofar; ended = inr (f, stops.0, stops.1, refl) }) in
+    record { es = h.es; tells = course_tells s (Err (Read f)) (Some n) h.es h.bytes course; places = h.places }
 
 pub told_memory :
     (s : List ℕ) (n p r : ℕ) (vs : List LocatedEvent) (v : LocatedEvent)
