@@ -1,5 +1,5 @@
 -- What has been read of a sheet, event by event, and what is told where reading ends. Assumes nothing.
-use Rattle.std.proofs.Common.{◌≡◌, ℕ, ◌+◌, ◌<◌, ◌≤◌, cond, ltb, List, [], ◌∷◌, ◌++◌, length, Some, None, Ok, Err, Option, Result, sym, refl, ap, ◌∙◌, subst, inl, inr, ⊎_elim, add-zero, zero-add, arith}
+use Rattle.std.proofs.Common.{◌≡◌, ℕ, ◌+◌, ◌<◌, ◌≤◌, cond, ltb, List, [], ◌∷◌, ◌++◌, length, Some, None, Ok, Err, Option, Result, sym, refl, ap, ◌∙◌, subst, inl, inr, ⊎_elim, arith}
 use Rattle.std.proofs.ByRecursion.{All-push}
 use Rattle.std.proofs.lemmas.List.{length-append, flat_map_more}
 use Rattle.std.proofs.lemmas.Bool.{cases_lt, le-leb, le-ltb, lt-leb, lt-ltb}
@@ -15,9 +15,9 @@ use Rattle.format.specs.declared.fault.Reason.TheVariants.{Value}
 use Rattle.format.specs.Layouts.{and_then, event_at, next_at}
 use Rattle.format.specs.Numbers.{Answer, Bytes, fault}
 use Rattle.format.specs.Openings.{count_at, opening}
-use Rattle.format.specs.Sheets.{Stands, Told}
+use Rattle.format.specs.Sheets.{Outcome, Stands, Told}
 use Rattle.format.proofs.EventLaws.{event_wrote}
-use Rattle.format.proofs.SheetLaws.{Course, Sofar, course_tells, event_long, sofar_opened, sofar_whole}
+use Rattle.format.proofs.SheetLaws.{Course, Ended, Sofar, course_tells, event_long, sofar_opened, sofar_whole}
 use Rattle.format.proofs.Standing.{stands_join, stands_none}
 
 -- The next event.
@@ -60,11 +60,12 @@ start s n q B e = record {
   bytes = B;
 }
 
-located_push : (p : ℕ) (es : List SectionEvent) (e : SectionEvent) → located p es ++ at_place (p + length (flat_map written_event es)) e ∷ [] ≡ located p (es ++ e ∷ [])
-located_push p [] e = rw (add-zero p)
-located_push p (d ∷ es) e =
-    ap (λ l. at_place p d ∷ l)
-    (ap (λ n. located (p + length (written_event d)) es ++ at_place n e ∷ []) (simp length-append (omega arith)) ∙ located_push (p + length (written_event d)) es e)
+located_push :
+    (p q : ℕ) (es : List SectionEvent) (e : SectionEvent) → q ≡ p + length (flat_map written_event es) → located p es ++ at_place q e ∷ [] ≡ located p (es ++ e ∷ [])
+located_push p q [] e h = let same : q ≡ p = omega arith in cc
+located_push p q (d ∷ es) e h =
+    let rest = located_push (p + length (written_event d)) q es e (omega (arith, length-append (written_event d) (flat_map written_event es))) in
+    cc
 
 -- the event that is told next stands at p
 next_wrote :
@@ -82,8 +83,7 @@ more s n p r vs v h e =
     let w = next_wrote s n p r vs v h e in
     let t = h.sofar in
     let count = (sofar_opened h.bytes t).2 in
-    let first : h.q ≡ length (written_number n) = count.after ∙ zero-add _ in
-    let here : v.offset ≡ length (written_number n) + length (flat_map written_event h.es) = omega (arith, w.1, t.stands.after, first) in (
+    let here : v.offset ≡ length (written_number n) + length (flat_map written_event h.es) = omega (arith, w.1, t.stands.after, count.after) in (
       record {
         q = h.q;
         es = h.es ++ v.told ∷ [];
@@ -92,10 +92,7 @@ more s n p r vs v h e =
           proper = All-push Proper h.es v.told t.proper w.2.1;
           stands = subst (Stands s h.q r) (flat_map_more written_event [] h.es v.told) (stands_join t.stands w.2.0);
         };
-        places =
-            ap (λ l. l ++ v ∷ []) h.places
-            ∙ ap (λ m. located (length (written_number n)) h.es ++ at_place m v.told ∷ []) here
-            ∙ located_push (length (written_number n)) h.es v.told;
+        places = rw h.places (located_push (length (written_number n)) v.offset h.es v.told here);
         bytes = h.bytes;
       },
       w.0,
@@ -104,17 +101,16 @@ more s n p r vs v h e =
 
 -- Where reading ends.
 
+told_ended : (s : List ℕ) (n p : ℕ) (r : Outcome) (vs : List LocatedEvent) → Progress s n p vs → Ended s p r → Told s r (Some n) vs
+told_ended s n p r vs h d =
+    let course : Course s r (Some n) h.es = inr (record { n = n; q = h.q; p = p; counts = refl; sofar = h.sofar; ended = d }) in
+    record { es = h.es; tells = course_tells s r (Some n) h.es h.bytes course; places = h.places }
+
 pub told_end : (s : List ℕ) (n p r : ℕ) (vs : List LocatedEvent) → Progress s n p vs → next_at s p ≡ Ok (None, r) → Told s (Ok tt) (Some n) vs
-told_end s n p r vs h e =
-    let end = next_none s p r (event_at s p) e in
-    let course : Course s (Ok tt) (Some n) h.es = inr (record { n = n; q = h.q; p = p; counts = refl; sofar = h.sofar; ended = inl (end, refl) }) in
-    record { es = h.es; tells = course_tells s (Ok tt) (Some n) h.es h.bytes course; places = h.places }
+told_end s n p r vs h e = told_ended s n p (Ok tt) vs h (inl (next_none s p r (event_at s p) e, refl))
 
 pub told_fault : (s : List ℕ) (n p : ℕ) (vs : List LocatedEvent) (f : ReadFault) → Progress s n p vs → next_at s p ≡ Err f → Told s (Err (Read f)) (Some n) vs
-told_fault s n p vs f h e =
-    let stops = next_err s p (event_at s p) f e in
-    let course : Course s (Err (Read f)) (Some n) h.es = inr (record { n = n; q = h.q; p = p; counts = refl; sofar = h.sofar; ended = inr (f, stops.0, stops.1, refl) }) in
-    record { es = h.es; tells = course_tells s (Err (Read f)) (Some n) h.es h.bytes course; places = h.places }
+told_fault s n p vs f h e = let d = next_err s p (event_at s p) f e in told_ended s n p (Err (Read f)) vs h (inr (f, d.0, d.1, refl))
 
 pub told_memory :
     (s : List ℕ) (n p r : ℕ) (vs : List LocatedEvent) (v : LocatedEvent)
