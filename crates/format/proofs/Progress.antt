@@ -51,8 +51,8 @@ pub record Progress (s : List ℕ) (n p : ℕ) (vs : List LocatedEvent) : Type 0
   pub places : vs ≡ located (length (written_number n)) es
   pub bytes : Bytes s
 
-pub start : (s : List ℕ) (n q : ℕ) → Bytes s → opening s ≡ Ok (n, q) → Progress s n q []
-start s n q B e = record {
+pub start : {s : List ℕ} {n q : ℕ} → Bytes s → opening s ≡ Ok (n, q) → Progress s n q []
+start {s} {n} {q} B e = record {
   q = q;
   es = [];
   sofar = record { opened = e; proper = tt; stands = stands_none s q };
@@ -77,9 +77,9 @@ next_wrote s n p r vs v h e =
 
 -- one event more, which lies further on
 pub more :
-    (s : List ℕ) (n p r : ℕ) (vs : List LocatedEvent) (v : LocatedEvent)
+    {s : List ℕ} {n p r : ℕ} {vs : List LocatedEvent} {v : LocatedEvent}
     → Progress s n p vs → next_at s p ≡ Ok (Some v, r) → Progress s n r (vs ++ v ∷ []) × (p < length s) × (p < r)
-more s n p r vs v h e =
+more {s} {n} {p} {r} {vs} {v} h e =
     let w = next_wrote s n p r vs v h e in
     let t = h.sofar in
     let count = (sofar_opened h.bytes t).2 in
@@ -106,16 +106,16 @@ told_ended s n p r vs h d =
     let course : Course s r (Some n) h.es = inr (record { n = n; q = h.q; p = p; counts = refl; sofar = h.sofar; ended = d }) in
     record { es = h.es; tells = course_tells s r (Some n) h.es h.bytes course; places = h.places }
 
-pub told_end : (s : List ℕ) (n p r : ℕ) (vs : List LocatedEvent) → Progress s n p vs → next_at s p ≡ Ok (None, r) → Told s (Ok tt) (Some n) vs
-told_end s n p r vs h e = told_ended s n p (Ok tt) vs h (inl (next_none s p r (event_at s p) e, refl))
+pub told_end : {s : List ℕ} {n p r : ℕ} {vs : List LocatedEvent} → Progress s n p vs → next_at s p ≡ Ok (None, r) → Told s (Ok tt) (Some n) vs
+told_end {s} {n} {p} {r} {vs} h e = told_ended s n p (Ok tt) vs h (inl (next_none s p r (event_at s p) e, refl))
 
-pub told_fault : (s : List ℕ) (n p : ℕ) (vs : List LocatedEvent) (f : ReadFault) → Progress s n p vs → next_at s p ≡ Err f → Told s (Err (Read f)) (Some n) vs
-told_fault s n p vs f h e = let d = next_err s p (event_at s p) f e in told_ended s n p (Err (Read f)) vs h (inr (f, d.0, d.1, refl))
+pub told_fault : {s : List ℕ} {n p : ℕ} {vs : List LocatedEvent} {f : ReadFault} → Progress s n p vs → next_at s p ≡ Err f → Told s (Err (Read f)) (Some n) vs
+told_fault {s} {n} {p} {vs} {f} h e = let d = next_err s p (event_at s p) f e in told_ended s n p (Err (Read f)) vs h (inr (f, d.0, d.1, refl))
 
 pub told_memory :
-    (s : List ℕ) (n p r : ℕ) (vs : List LocatedEvent) (v : LocatedEvent)
+    {s : List ℕ} {n p r : ℕ} {vs : List LocatedEvent} {v : LocatedEvent}
     → Progress s n p vs → next_at s p ≡ Ok (Some v, r) → Told s (Err Memory) (Some n) vs
-told_memory s n p r vs v h e =
+told_memory {s} {n} {p} {r} {vs} {v} h e =
     let o = sofar_opened h.bytes h.sofar in
     let w = next_wrote s n p r vs v h e in
     record {
@@ -136,8 +136,8 @@ told_memory s n p r vs v h e =
       places = h.places;
     }
 
-pub told_opening : (s : List ℕ) (f : RunFault) → Bytes s → opening s ≡ Err f → Told s (Err f) None []
-told_opening s f B e = record {
+pub told_opening : {s : List ℕ} {f : RunFault} → Bytes s → opening s ≡ Err f → Told s (Err f) None []
+told_opening {s} {f} B e = record {
   es = [];
   tells = course_tells s (Err f) None [] B (inl (record { why = f; answer = refl; opened = e; nothing = (refl, refl) }));
   places = refl;
@@ -149,7 +149,3 @@ opening_long s h = rw (lt-leb (length s) 65536 h)
 
 pub opening_short : (s : List ℕ) (r : Result (ℕ × ℕ) RunFault) → length s ≤ 65536 → count_at s 0 ≡ r → opening s ≡ r
 opening_short s r h e = rw (le-leb (length s) 65536 h) e
-
--- the same bytes have the same next event
-pub next_in : (s t : List ℕ) (p : ℕ) (r : Answer (Option LocatedEvent)) → s ≡ t → next_at s p ≡ r → next_at t p ≡ r
-next_in s t p r e h = ap (λ l. next_at l p) (sym e) ∙ h
