@@ -22,7 +22,7 @@ told_whole s r sections events told = record { told = told; exactly = answers_ex
 opened : (c : In_ok-cursor) (r : Result (ℕ × ℕ) RunFault) → count_at c.in_ok-cursor.cursor.sheet.now c.in_ok-cursor.cursor.at ≡ r → opening c.args.sheet.now ≡ r
 opened c r e =
     let o = c.in_ok-cursor.ensures in
-    opening_short c.args.sheet.now r o.0 ((λ i. count_at (sym o.1 i) (sym o.2 i)) ∙ e)
+    opening_short c.args.sheet.now r o.0 (rw (o.1, o.2) at e)
 
 pub returns-in_err-cursor : goal.returns-in_err-cursor
 returns-in_err-cursor c =
@@ -30,8 +30,7 @@ returns-in_err-cursor c =
     let s = c.args.sheet.now in
     let o = c.in_err-cursor.ensures in
     let bytes : Bytes s = search rules in
-    let told : Told s (Err (Read c.in_err-cursor.field-0.0)) None [] =
-    told_opening bytes (opening_long s o.0 ∙ ap (λ f. Err (Read f)) (sym o.1)) in
+    let told : Told s (Err (Read c.in_err-cursor.field-0.0)) None [] = told_opening bytes (rw o.1 (opening_long s o.0)) in
     rw (p.1, p.2, c.forget.ensures.0, c.forget.ensures.1) (told_whole s _ _ _ told)
 
 pub returns-in_err-sections : goal.returns-in_err-sections
@@ -48,7 +47,7 @@ loop-event-init c =
     let s = c.args.sheet.now in
     let bytes : Bytes s = search rules in
     let first = start bytes (opened (goal.at.loop-event-init c).In_ok-cursor _ c.in_ok-sections.ensures.answer) in
-    (c.sections.ensures.sheet ∙ o.1, (_, refl, subst (Progress s _ _) (sym c.forget.ensures.1) first))
+    (c.sections.ensures.sheet ∙ o.1, (_, refl, rw c.forget.ensures.1 first))
 
 pub returns-in_err-event : goal.returns-in_err-event
 returns-in_err-event c =
@@ -75,7 +74,7 @@ loop-event-preserved c =
     let inv = c.loop-event.invariant in
     let f = further (goal.at.loop-event-preserved c).In_ok-push in
     let pushed = chosen _ _ _ _ c.push.ensures.items (ap is_ok c.in_ok-push.was) in
-    (c.event.ensures.sheet ∙ inv.0, (inv.1.0, inv.1.1, subst (Progress _ _ _) (sym pushed) f.0))
+    (c.event.ensures.sheet ∙ inv.0, (inv.1.0, inv.1.1, rw pushed f.0))
 
 pub returns-in_err-push : goal.returns-in_err-push
 returns-in_err-push c =
