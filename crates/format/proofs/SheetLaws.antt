@@ -120,9 +120,9 @@ something_left s p o [] h t = omega (arith, length-drop o s)
 something_left s p o (n ∷ ns) h t = omega arith
 
 event_stops :
-    (s : List ℕ) (n q p : ℕ) (es : List SectionEvent) (f : ReadFault)
+    {s : List ℕ} {n q p : ℕ} {es : List SectionEvent} {f : ReadFault}
     → Bytes s → Sofar s n q p es → p < length s → event_at s p ≡ Err f → StopsFor f.reason s f.offset (Some n) es
-event_stops s n q p es f B h l e =
+event_stops {s} {n} {q} {p} {es} {f} B h l e =
     let o = sofar_opened B h in
     let t = event_told s p (Err f) B (omega arith) e in
     let within : t.place ≤ length s = stands_within (omega arith) t.stands in
@@ -162,7 +162,7 @@ course_tells s r c es B t =
     let whole = sofar_whole B h in
     let bytes = rw (drop_all d.p s e.0, append-nil) at whole.bytes in
     rw e.1 (d.n, d.counts, record { bytes = bytes; short = o.0; sections = o.1; proper = h.proper }))
-    (λ e. rw (e.3, d.counts) (event_stops s d.n d.q d.p es e.0 B h e.1 e.2))
+    (λ e. rw (e.3, d.counts) (event_stops B h e.1 e.2))
     d.ended)
     t
 
@@ -199,9 +199,11 @@ module _ (s : List ℕ) where
     number_fault : (f : ReadFault) → number_at s o ≡ Err f → 0 < length ns + length (drop o s) → Course s (Err (Read f)) (Some n) es
     number_fault f e i = stopped f i (number_stops s _ o ns f u.begun begun e)
 
-    value_fault : (m r : ℕ) → number_at s o ≡ Ok (m, r) → m ≤ 65535 → (GoesOn ns m → ⊥) → o < length s → Course s (Err (Read (fault Value o))) (Some n) es
-    value_fault m r e fits stuck l =
-        stopped (fault Value o) (omega (arith, length-drop o s)) (value_stops s _ o r ns m fits u.begun stuck begun e)
+    value_fault : (m : ℕ) → m ≤ 65535 → Begins (drop o s) m → (GoesOn ns m → ⊥) → Course s (Err (Read (fault Value o))) (Some n) es
+    value_fault m fits b stuck =
+        let at = begins_stands b in
+        let inside = stands_inside at (written_long m) in
+        stopped (fault Value o) (omega (arith, length-drop o s)) (value_stops s _ o _ ns m fits u.begun stuck begun (number_reads s o _ m fits at))
 
 malformed_some : {bs : List ℕ} {p o : ℕ} → Malformed bs p o → 0 < length bs
 malformed_some {bs} m =
@@ -226,10 +228,7 @@ module _ (s : List ℕ) where
       wanted_fault t.place c es t.numbers _ t.short t.wanted (inr (omega (arith, malformed_some t.malformed))) (malformed_stops s t.place o within t.malformed)
   stops_course Value o c es t =
       ⊎_elim
-      (λ v.
-      let at = begins_stands v.begins in
-      rw v.counted
-      (value_fault s o v.count es v.numbers v.short v.read v.number _ (number_reads s o _ v.number v.fits at) v.fits v.stuck (stands_inside at (written_long v.number))))
+      (λ v. rw v.counted (value_fault s o v.count es v.numbers v.short v.read v.number v.fits v.begins v.stuck))
       (λ l. rw l.end (inl (record { why = Read (fault Value 65536); answer = refl; opened = rw (lt-leb (length s) 65536 l.long); nothing = l.nothing })))
       t
 
