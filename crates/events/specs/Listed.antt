@@ -1,25 +1,17 @@
 -- What a listed field gives: each value has one number, and a number stands for no other value. Assumes nothing.
-use Rattle.std.specs.Prelude.{◌≡◌, ℕ, List, [], ◌∷◌, Some, None, ◌≢◌}
-use Rattle.std.proofs.Common.{ap, refl, ◌∙◌, ⊎_elim, arith}
+use Rattle.std.specs.Prelude.{◌≡◌, ℕ, List, [], ◌∷◌, Some}
+use Rattle.std.proofs.Common.{ap, ◌∙◌, ⊎_elim, arith}
 use Rattle.std.proofs.lemmas.Bool.Decides.{nat_tests}
 use Rattle.std.proofs.lemmas.Bool.{cases_eq, eq-eqb, ne_eqb}
 use Rattle.events.specs.Fields.{first_numbered, every_code, code_number, every_consent, consent_number, every_direction, direction_number, every_kind, kind_number, every_place, place_number, every_position, position_number, every_station, station_number, every_turn, turn_number}
 use Rattle.events.specs.declared.field.Code.{Code}
-use Rattle.events.specs.declared.field.Code.TheVariants as code
 use Rattle.events.specs.declared.field.Consent.{Consent}
-use Rattle.events.specs.declared.field.Consent.TheVariants as consent
 use Rattle.events.specs.declared.field.Direction.{Direction}
-use Rattle.events.specs.declared.field.Direction.TheVariants as direction
 use Rattle.events.specs.declared.field.Kind.{Kind}
-use Rattle.events.specs.declared.field.Kind.TheVariants as kind
 use Rattle.events.specs.declared.field.Place.{Place}
-use Rattle.events.specs.declared.field.Place.TheVariants as place
 use Rattle.events.specs.declared.field.Position.{Position}
-use Rattle.events.specs.declared.field.Position.TheVariants as position
 use Rattle.events.specs.declared.field.Station.{Station}
-use Rattle.events.specs.declared.field.Station.TheVariants as station
 use Rattle.events.specs.declared.field.Turn.{Turn}
-use Rattle.events.specs.declared.field.Turn.TheVariants as turn
 
 pub listed_back : {T : Type 0} (number : T → ℕ) (xs : List T) (n : ℕ) (x : T) → first_numbered number xs n ≡ Some x → n ≡ number x
 listed_back number [] n x e = cc

@@ -30,7 +30,7 @@ use Rattle.format.specs.declared.fault.Reason.TheVariants.{Value}
 use Rattle.format.specs.Layouts.{Layout, done, field, and_then, event_at, field_at, fields_of, layout_at}
 use Rattle.format.specs.Numbers.{Answer, Bytes, fault, number_at}
 use Rattle.format.specs.Sheets.{Begun, GoesOn, Stands}
-use Rattle.format.proofs.LayoutLaws.{Answered, Bars, Filled, Makes, Means, Sound, Stopped, Wants, Writes, Made}
+use Rattle.format.proofs.LayoutLaws.{Answered, Bars, Filled, Makes, Means, Sound, Wants, Writes}
 use Rattle.format.proofs.LayoutLaws.{bars_fault, bars_makes, layout_reads, layout_told, makes_wants, makes_written, wanted_number, wants_fault, wants_makes, written_filled}
 
 -- Each field has a number for each value and a value for each of its numbers.

@@ -1,5 +1,5 @@
 -- Each answer is given exactly when it is due, and a sheet has one reading. Assumes nothing.
-use Rattle.std.proofs.Common.{◌≡◌, ℕ, List, Some, Ok, Err, Option, sym, refl, ◌∙◌, subst, inl, inr, ⊎_elim, arith}
+use Rattle.std.proofs.Common.{◌≡◌, ℕ, List, Some, Ok, Err, Option, sym, refl, ◌∙◌, inl, inr, ⊎_elim, arith}
 use Rattle.events.specs.declared.event.LocatedEvent.{LocatedEvent}
 use Rattle.events.specs.declared.event.SectionEvent.{SectionEvent}
 use Rattle.format.specs.declared.fault.RunFault.TheVariants.{Read, Sections, Memory}
