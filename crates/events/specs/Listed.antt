@@ -15,11 +15,7 @@ use Rattle.events.specs.declared.field.Turn.{Turn}
 
 pub listed_back : {T : Type 0} (number : T → ℕ) (xs : List T) (n : ℕ) (x : T) → first_numbered number xs n ≡ Some x → n ≡ number x
 listed_back number [] n x e = cc
-listed_back number (y ∷ ys) n x e =
-    ⊎_elim
-    (λ z. z ∙ ap number (let f = rw (eq-eqb n (number y) z) at e in cc))
-    (λ z. listed_back number ys n x (rw (ne_eqb n (number y) z) at e))
-    (cases_eq n (number y))
+listed_back number (y ∷ ys) n x e = let rest = listed_back number ys n x in grind (arith, nat_tests)
 
 -- Each value of a listed field is what its number stands for.
 

@@ -206,11 +206,7 @@ module _ (s : List ℕ) where
         stopped (fault Value o) (omega (arith, length-drop o s)) (value_stops s _ o _ ns m fits u.begun stuck begun (number_reads s o _ m fits at))
 
 malformed_some : {bs : List ℕ} {p o : ℕ} → Malformed bs p o → 0 < length bs
-malformed_some {bs} m =
-    ⊎_elim
-    (λ x. ⊎_elim (λ y. rw y.1 (omega arith)) (λ y. rw y.whole (omega arith)) x.1)
-    (λ x. rw x.1.begins.whole (simp length-append (omega (arith, written_long x.1.number))))
-    m
+malformed_some m = grind (arith, length-append, written_long)
 
 module _ (s : List ℕ) where
   wanted_fault :
