@@ -71,32 +71,32 @@ place = covered place_number every_place Arrived place_back (λ x. grind arith)
 event_kind : Covered kinds
 event_kind = covered kind_number every_kind kind.Call kind_back (λ x. grind arith)
 
-module _ (least most : ℕ) where
-  range_means : most ≤ 65535 → (n : ℕ) → holds (from_to least most) n ≡ true → Means (from_to least most) n n
-  range_means k n h = record { value = grind (arith, nat_tests); fits = grind (arith, nat_tests) }
+-- a field that is held by some numbers, each of which stands for itself
+record Ranged (f : Field ℕ) : Type 0 where
+  means : (n : ℕ) → holds f n ≡ true → Means f n n
+  held : (n m : ℕ) → Means f n m → holds f m ≡ true
+  sound : Sound f
 
-  range_holds : (n m : ℕ) → Means (from_to least most) n m → holds (from_to least most) m ≡ true
-  range_holds n m h = let e = h.value in grind (arith, nat_tests)
+ranged : (least most : ℕ) → least ≤ most → most ≤ 65535 → Ranged (from_to least most)
+ranged least most h k =
+    let means : (n : ℕ) → holds (from_to least most) n ≡ true → Means (from_to least most) n n =
+    λ n i. record { value = grind (arith, nat_tests); fits = grind (arith, nat_tests) } in
+    record {
+      means = means;
+      held = λ n m i. let e = i.value in grind (arith, nat_tests);
+      sound = record {
+        back = λ n m i. let e = i.value in grind (arith, nat_tests);
+        number = least;
+        one = least;
+        means = means least (grind (arith, nat_tests));
+      };
+    }
 
-  range_sound : most ≤ 65535 → least ≤ most → Sound (from_to least most)
-  range_sound k h = record {
-    back = λ n m i. let e = i.value in grind (arith, nat_tests);
-    number = least;
-    one = least;
-    means = range_means k least (grind (arith, nat_tests));
-  }
+axles : Ranged axle_counts
+axles = ranged 1 250 (omega arith) (omega arith)
 
-axles_mean : (k : ℕ) → holds axle_counts k ≡ true → Means axle_counts k k
-axles_mean = range_means 1 250 (omega arith)
-
-track_means : (k : ℕ) → holds tracks k ≡ true → Means tracks k k
-track_means = range_means 0 6 (omega arith)
-
-axles_sound : Sound axle_counts
-axles_sound = range_sound 1 250 (omega arith) (omega arith)
-
-track_sound : Sound tracks
-track_sound = range_sound 0 6 (omega arith) (omega arith)
+track : Ranged tracks
+track = ranged 0 6 (omega arith) (omega arith)
 
 section_means : (n : ℕ) → n ≤ 65535 → Means sections n n
 section_means n h = record { value = refl; fits = h }
@@ -111,14 +111,14 @@ fields_follow (event.Acknowledge a y t) w = (a, station.means a, (y, consent.mea
 fields_follow (event.Error a) w = (a, station.means a, refl)
 fields_follow (event.StopControl l p) w = (l, direction.means l, (p, position.means p, refl))
 fields_follow (event.HomeControl l p) w = (l, direction.means l, (p, position.means p, refl))
-fields_follow (event.Enters l k) w = (l, direction.means l, (k, axles_mean k w, refl))
-fields_follow (event.Leave l k) w = (l, direction.means l, (k, axles_mean k w, refl))
+fields_follow (event.Enters l k) w = (l, direction.means l, (k, axles.means k w, refl))
+fields_follow (event.Leave l k) w = (l, direction.means l, (k, axles.means k w, refl))
 fields_follow (event.TrolleyStarts l) w = (l, direction.means l, refl)
 fields_follow (event.TrolleyEnds l e) w = (l, direction.means l, (e, place.means e, refl))
 fields_follow (event.Fails l) w = (l, direction.means l, refl)
 fields_follow (event.Reset l a) w = (l, direction.means l, (a, station.means a, refl))
 fields_follow (event.Resume l a) w = (l, direction.means l, (a, station.means a, refl))
-fields_follow (event.Roll l k) w = (l, direction.means l, (k, track_means k w, refl))
+fields_follow (event.Roll l k) w = (l, direction.means l, (k, track.means k w, refl))
 
 -- an event of the kind k within its values
 abbrev Good : Kind → Event → Type 0
@@ -132,14 +132,14 @@ fields_written kind.Acknowledge = (station.sound, λ _ _ _. (consent.sound, λ _
 fields_written kind.Error = (station.sound, λ _ _ _. (refl, (refl, refl)))
 fields_written kind.StopControl = (direction.sound, λ _ _ _. (position.sound, λ _ _ _. (refl, (refl, refl))))
 fields_written kind.HomeControl = (direction.sound, λ _ _ _. (position.sound, λ _ _ _. (refl, (refl, refl))))
-fields_written kind.Enters = (direction.sound, λ _ _ _. (axles_sound, λ n k m. (refl, (refl, range_holds 1 250 n k m))))
-fields_written kind.Leave = (direction.sound, λ _ _ _. (axles_sound, λ n k m. (refl, (refl, range_holds 1 250 n k m))))
+fields_written kind.Enters = (direction.sound, λ _ _ _. (axles.sound, λ n k m. (refl, (refl, axles.held n k m))))
+fields_written kind.Leave = (direction.sound, λ _ _ _. (axles.sound, λ n k m. (refl, (refl, axles.held n k m))))
 fields_written kind.TrolleyStarts = (direction.sound, λ _ _ _. (refl, (refl, refl)))
 fields_written kind.TrolleyEnds = (direction.sound, λ _ _ _. (place.sound, λ _ _ _. (refl, (refl, refl))))
 fields_written kind.Fails = (direction.sound, λ _ _ _. (refl, (refl, refl)))
 fields_written kind.Reset = (direction.sound, λ _ _ _. (station.sound, λ _ _ _. (refl, (refl, refl))))
 fields_written kind.Resume = (direction.sound, λ _ _ _. (station.sound, λ _ _ _. (refl, (refl, refl))))
-fields_written kind.Roll = (direction.sound, λ _ _ _. (track_sound, λ n k m. (refl, (refl, range_holds 0 6 n k m))))
+fields_written kind.Roll = (direction.sound, λ _ _ _. (track.sound, λ n k m. (refl, (refl, track.held n k m))))
 
 -- The section is put before the fields.
 

@@ -1,3 +1,4 @@
+-- What a reading tells is what the sheet holds, at each step of the code.
 use Rattle.std.proofs.Common.{◌≡◌, ℕ, ◌<◌, List, Option, [], ◌∷◌, ◌++◌, length, is_ok, None, Err, vec_items, Result, refl, ap, ◌∙◌, arith, rules}
 use Rattle.std.proofs.ResultArms.{chosen}
 use Rattle.std.proofs.lemmas.Result.{err_from_is_err_and}
