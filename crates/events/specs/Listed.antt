@@ -1,8 +1,7 @@
 -- What a listed field gives: each value has one number, and a number stands for no other value. Assumes nothing.
 use Rattle.std.specs.Prelude.{◌≡◌, ℕ, List, [], ◌∷◌, Some}
-use Rattle.std.proofs.Common.{ap, ◌∙◌, ⊎_elim, arith}
+use Rattle.std.proofs.Common.{arith}
 use Rattle.std.proofs.lemmas.Bool.Decides.{nat_tests}
-use Rattle.std.proofs.lemmas.Bool.{cases_eq, eq-eqb, ne_eqb}
 use Rattle.events.specs.Fields.{first_numbered, every_code, code_number, every_consent, consent_number, every_direction, direction_number, every_kind, kind_number, every_place, place_number, every_position, position_number, every_station, station_number, every_turn, turn_number}
 use Rattle.events.specs.declared.field.Code.{Code}
 use Rattle.events.specs.declared.field.Consent.{Consent}
