@@ -1,5 +1,5 @@
 -- What is answered at a layout is what stands there, proved once for every layout. Assumes nothing.
-use Rattle.std.proofs.Common.{◌≡◌, ℕ, ◌≤◌, ◌⊎◌, List, [], ◌∷◌, ◌++◌, length, Some, None, Ok, Err, Option, sym, refl, ap, ◌∙◌, subst, inl, inr, ⊎_elim, append_assoc, append-nil, add-zero}
+use Rattle.std.proofs.Common.{◌≡◌, ℕ, ◌≤◌, ◌⊎◌, List, [], ◌∷◌, ◌++◌, length, Some, None, Ok, Err, Option, refl, subst, inl, inr, ⊎_elim, append_assoc, append-nil, arith}
 use Rattle.std.specs.List.{flat_map}
 use Rattle.events.specs.Fields.{Field}
 use Rattle.events.specs.Written.{written_number}
@@ -37,12 +37,6 @@ Bars (done y) ns m = ⊥
 Bars (field f k) [] m = f.value m ≡ None
 Bars (field {A} f k) (n ∷ ns) m = (a : A) × Means f n a × Bars (k a) ns m
 
-same_value : {A : Type 0} {f : Field A} {n : ℕ} {a b : A} → Means f n a → Means f n b → a ≡ b
-same_value m k = cc (m.value, k.value)
-
-no_value : {A : Type 0} {f : Field A} {n : ℕ} {a : A} → Means f n a → f.value n ≡ None → ⊥
-no_value m e = cc (m.value, e)
-
 pub makes_wants : {T : Type 0} (l : Layout T) (ns : List ℕ) (n : ℕ) (more : List ℕ) (x : T) → Makes l (ns ++ n ∷ more) x → Wants l ns
 makes_wants (done y) [] n more x m = absurd m
 makes_wants (done y) (i ∷ ns) n more x m = absurd m
@@ -52,9 +46,10 @@ makes_wants (field f k) (i ∷ ns) n more x m = (m.0, m.1, makes_wants (k m.0) n
 -- no way goes on with a number that stands for no value
 pub bars_makes : {T : Type 0} (l : Layout T) (ns : List ℕ) (n : ℕ) (more : List ℕ) (x : T) → Bars l ns n → Makes l (ns ++ n ∷ more) x → ⊥
 bars_makes (done y) ns n more x b m = b
-bars_makes (field f k) [] n more x b m = no_value m.1 b
+bars_makes (field f k) [] n more x b m = cc (m.1.value, b)
 bars_makes {T} (field f k) (i ∷ ns) n more x b m =
-    bars_makes (k b.0) ns n more x b.2 (subst (λ a. Makes (k a) (ns ++ n ∷ more) x) (same_value m.1 b.1) m.2)
+    let same : m.0 ≡ b.0 = cc (m.1.value, b.1.value) in
+    bars_makes (k b.0) ns n more x b.2 (subst (λ a. Makes (k a) (ns ++ n ∷ more) x) same m.2)
 
 -- each field of a layout has a value, so that every beginning can be completed
 abbrev pub Filled : {T : Type 0} → Layout T → Type 0
@@ -114,12 +109,11 @@ Writes numbers good (field {A} f k) ns = Sound f × ((n : ℕ) (a : A) → Means
 
 module _ {T : Type 0} (numbers : T → List ℕ) (good : T → Type 0) where
   pub makes_written : (l : Layout T) (front ns : List ℕ) (x : T) → Writes numbers good l front → Makes l ns x → (numbers x ≡ front ++ ns) × good x
-  makes_written (done y) front [] x w m = (ap numbers (sym m) ∙ w.0 ∙ sym (append-nil front), subst good m w.1)
+  makes_written (done y) front [] x w m = rw (← m, append-nil) w
   makes_written (done y) front (n ∷ ns) x w m = absurd m
   makes_written (field f k) front [] x w m = absurd m
   makes_written (field f k) front (n ∷ ns) x w m =
-      let r = makes_written (k m.0) (front ++ f.number m.0 ∷ []) ns x (w.1 _ _ m.1) m.2 in
-      (r.0 ∙ append_assoc front (f.number m.0 ∷ []) ns ∙ ap (λ i. front ++ i ∷ ns) (sym (w.0.back _ _ m.1)), r.1)
+      rw (append_assoc, ← w.0.back n m.0 m.1) at (makes_written (k m.0) (front ++ f.number m.0 ∷ []) ns x (w.1 _ _ m.1) m.2)
 
   pub written_filled : (l : Layout T) (front : List ℕ) → Writes numbers good l front → Filled l
   written_filled (done y) front w = tt
@@ -135,12 +129,12 @@ field_reads f s p q n a m t = rw (number_reads s p q n m.fits t, m.value)
 pub layout_reads :
     {T : Type 0} (l : Layout T) (s : List ℕ) (p q : ℕ) (ns : List ℕ) (x : T)
     → Makes l ns x → Stands s p q (flat_map written_number ns) → layout_at l s p ≡ Ok (x, q)
-layout_reads (done y) s p q [] x m t = let same : q ≡ p = t.after ∙ add-zero p in λ i. Ok (m i, sym same i)
+layout_reads (done y) s p q [] x m t = let same : q ≡ p = omega arith in cc
 layout_reads (done y) s p q (n ∷ ns) x m t = absurd m
 layout_reads (field f k) s p q [] x m t = absurd m
 layout_reads (field f k) s p q (n ∷ ns) x m t =
-    rw (field_reads f s p _ n m.0 m.1 (stands_front (written_number n) (flat_map written_number ns) t))
-    (layout_reads (k m.0) s _ q ns x m.2 (stands_back (written_number n) (flat_map written_number ns) t))
+    rw (field_reads f s p _ n m.0 m.1 (stands_front _ _ t))
+    (layout_reads (k m.0) s _ q ns x m.2 (stands_back _ _ t))
 
 -- a fault at a number that is wanted is the layout's
 pub wants_fault :
@@ -148,10 +142,10 @@ pub wants_fault :
     → Wants l ns → Stands s p q (flat_map written_number ns) → number_at s q ≡ Err g → layout_at l s p ≡ Err g
 unfolding field_at
 wants_fault (done y) s p q ns g w t e = absurd w
-wants_fault (field f k) s p q [] g w t e = let same : p ≡ q = sym (t.after ∙ add-zero p) in rw (same, e)
+wants_fault (field f k) s p q [] g w t e = let same : p ≡ q = omega arith in rw (same, e)
 wants_fault (field f k) s p q (n ∷ ns) g w t e =
-    rw (field_reads f s p _ n w.0 w.1 (stands_front (written_number n) (flat_map written_number ns) t))
-    (wants_fault (k w.0) s _ q ns g w.2 (stands_back (written_number n) (flat_map written_number ns) t) e)
+    rw (field_reads f s p _ n w.0 w.1 (stands_front _ _ t))
+    (wants_fault (k w.0) s _ q ns g w.2 (stands_back _ _ t) e)
 
 -- so is a number that stands for no value
 pub bars_fault :
@@ -159,10 +153,10 @@ pub bars_fault :
     → Bars l ns n → Stands s p q (flat_map written_number ns) → number_at s q ≡ Ok (n, r) → layout_at l s p ≡ Err (fault Value q)
 unfolding field_at
 bars_fault (done y) s p q r ns n b t e = absurd b
-bars_fault (field f k) s p q r [] n b t e = let same : p ≡ q = sym (t.after ∙ add-zero p) in rw (same, e, b)
+bars_fault (field f k) s p q r [] n b t e = let same : p ≡ q = omega arith in rw (same, e, b)
 bars_fault (field f k) s p q r (m ∷ ns) n b t e =
-    rw (field_reads f s p _ m b.0 b.1 (stands_front (written_number m) (flat_map written_number ns) t))
-    (bars_fault (k b.0) s _ q r ns n b.2 (stands_back (written_number m) (flat_map written_number ns) t) e)
+    rw (field_reads f s p _ m b.0 b.1 (stands_front _ _ t))
+    (bars_fault (k b.0) s _ q r ns n b.2 (stands_back _ _ t) e)
 
 -- What is answered at a layout stands there.
 

@@ -1,108 +1,34 @@
 -- What is answered at a number is what stands there. Assumes nothing.
-use Rattle.std.proofs.Common.{◌≡◌, ℕ, suc, ◌+◌, ◌-◌, ◌*◌, ◌/◌, ◌%◌, ◌<◌, ◌≤◌, ◌⊎◌, List, [], ◌∷◌, ◌++◌, length, drop, Ok, Err, sym, refl, ap, ◌∙◌, subst, inl, inr, ⊎_elim, arith}
-use Rattle.std.proofs.lemmas.List.{drop_all, drop_at, drop-drop, get_or-drop, length-append}
+use Rattle.std.proofs.Common.{◌≡◌, ℕ, suc, ◌+◌, ◌-◌, ◌*◌, ◌<◌, ◌≤◌, ◌⊎◌, List, [], ◌∷◌, ◌++◌, length, drop, Ok, Err, sym, refl, ap, ◌∙◌, inl, inr, ⊎_elim, arith}
+use Rattle.std.proofs.lemmas.List.{drop_all, get_or-drop, length-append}
+use Rattle.std.proofs.lemmas.Bool.Decides.{nat_tests}
 use Rattle.std.proofs.lemmas.Bool.{cases_lt, cases_eq, lt-ltb, le-ltb, le-leb, lt-leb, eq-eqb, ne_eqb}
 use Rattle.events.specs.Written.{written_number}
 use Rattle.format.specs.declared.fault.Reason.TheVariants.{Ends, Form}
 use Rattle.format.specs.Numbers.{Answer, Bytes, fault, first_byte, number_at, second_byte, third_byte}
 use Rattle.format.specs.Sheets.{Begins, Cut, Malformed, Stands}
-use Rattle.format.proofs.Standing.{stands_inside}
-
--- the written form, by its length
-one_byte : (n : ℕ) → n < 128 → written_number n ≡ n ∷ []
-one_byte n h = rw (lt-ltb n 128 h)
-
-two_bytes : (n : ℕ) → 128 ≤ n → n < 16384 → written_number n ≡ (128 + n / 128) ∷ (n % 128) ∷ []
-two_bytes n h k = rw (le-ltb n 128 h, lt-ltb n 16384 k)
-
-three_bytes : (n : ℕ) → 16384 ≤ n → written_number n ≡ (128 + n / 16384) ∷ (128 + n / 128 % 128) ∷ (n % 128) ∷ []
-three_bytes n k = let h : 128 ≤ n = omega arith in rw (le-ltb n 128 h, le-ltb n 16384 k)
-
--- a number is written in one, two or three bytes
-by_length :
-    (n : ℕ) (P : Type 0)
-    → (n < 128 → P) → (128 ≤ n → n < 16384 → P) → (16384 ≤ n → P) → P
-by_length n P one two three =
-    ⊎_elim one (λ l. ⊎_elim (two l) three (cases_lt n 16384)) (cases_lt n 128)
+use Rattle.format.proofs.Standing.{begins_stands, stands_inside}
 
 pub written_long : (n : ℕ) → 1 ≤ length (written_number n)
-written_long n =
-    by_length n (1 ≤ length (written_number n))
-    (λ l. rw (one_byte n l) (omega arith))
-    (λ l m. rw (two_bytes n l m) (omega arith))
-    (λ l. rw (three_bytes n l) (omega arith))
+written_long n = grind (arith, nat_tests)
 
 -- a sheet's bytes from p on, which may be none
 pub from_first : (s : List ℕ) (p : ℕ) → p ≤ length s → number_at s p ≡ first_byte p (drop p s)
-from_first s p h =
-    ⊎_elim
-    (λ l. rw (lt-ltb p (length s) l))
-    (λ l. let same : length s ≡ p = omega arith in rw (le-ltb p (length s) l, drop_all p s l, same))
-    (cases_lt p (length s))
+from_first s p h = grind (arith, nat_tests, drop_all)
 
 -- What stands at a number is answered.
 
-third_reads :
-    (n p : ℕ) (rest : List ℕ) → 16384 ≤ n → n < 2097152
-    → first_byte p (written_number n ++ rest) ≡ third_byte p (n / 128) ((n % 128) ∷ rest)
-third_reads n p rest m h =
-    let big : 128 ≤ 128 + n / 16384 = omega arith in
-    let other : 128 + n / 16384 ≡ 128 → ⊥ = λ e. omega arith in
-    let more : 128 ≤ 128 + n / 128 % 128 = omega arith in
-    let value : (128 + n / 16384 - 128) * 128 + (128 + n / 128 % 128 - 128) ≡ n / 128 = omega arith in
-    rw (three_bytes n m, le-ltb (128 + n / 16384) 128 big, ne_eqb (128 + n / 16384) 128 other, le-ltb (128 + n / 128 % 128) 128 more, value)
-
 first_reads : (n p : ℕ) (rest : List ℕ) → n ≤ 65535 → first_byte p (written_number n ++ rest) ≡ Ok (n, p + length (written_number n))
-first_reads n p rest h =
-    by_length n (first_byte p (written_number n ++ rest) ≡ Ok (n, p + length (written_number n)))
-    (λ l. rw (one_byte n l, lt-ltb n 128 l))
-    (λ l m.
-    let big : 128 ≤ 128 + n / 128 = omega arith in
-    let other : 128 + n / 128 ≡ 128 → ⊥ = λ e. omega arith in
-    let low : n % 128 < 128 = omega arith in
-    let value : (128 + n / 128 - 128) * 128 + n % 128 ≡ n = omega arith in
-    rw (two_bytes n l m, le-ltb (128 + n / 128) 128 big, ne_eqb (128 + n / 128) 128 other, lt-ltb (n % 128) 128 low, value))
-    (λ m.
-    let low : n % 128 < 128 = omega arith in
-    let value : n / 128 * 128 + n % 128 ≡ n = omega arith in
-    third_reads n p rest m (omega arith) ∙ rw (lt-ltb (n % 128) 128 low, value, le-leb n 65535 h, three_bytes n m))
+first_reads n p rest h = grind (arith, nat_tests)
 
 pub number_reads : (s : List ℕ) (p q n : ℕ) → n ≤ 65535 → Stands s p q (written_number n) → number_at s p ≡ Ok (n, q)
 number_reads s p q n h a = rw (lt-ltb p (length s) (stands_inside a (written_long n)), a.bytes, a.after) (first_reads n p _ h)
 
 cut_reads : (p : ℕ) (bs : List ℕ) → Cut bs → first_byte p bs ≡ Err (fault Ends p)
 cut_reads p [] c = refl
-cut_reads p (a ∷ []) c =
-    let n = c.number in
-    let high : 128 < a =
-    by_length n (128 < a)
-    (λ l. absurd (omega (arith, ap length (c.whole ∙ one_byte n l))))
-    (λ l m. let e = c.whole ∙ two_bytes n l m in let f : a ≡ 128 + n / 128 = cc in omega arith)
-    (λ l. let e = c.whole ∙ three_bytes n l in let f : a ≡ 128 + n / 16384 = cc in omega arith) in
-    let big : 128 ≤ a = omega arith in
-    let other : a ≡ 128 → ⊥ = λ e. omega arith in
-    rw (le-ltb a 128 big, ne_eqb a 128 other)
-cut_reads p (a ∷ b ∷ []) c =
-    let n = c.number in
-    let high : (128 < a) × (128 ≤ b) =
-    by_length n ((128 < a) × (128 ≤ b))
-    (λ l. absurd (omega (arith, ap length (c.whole ∙ one_byte n l))))
-    (λ l m. absurd (omega (arith, ap length (c.whole ∙ two_bytes n l m))))
-    (λ l.
-    let e = c.whole ∙ three_bytes n l in
-    let f : a ≡ 128 + n / 16384 = cc in
-    let g : b ≡ 128 + n / 128 % 128 = cc in
-    (omega arith, omega arith)) in
-    let big : 128 ≤ a = omega arith in
-    let more : 128 ≤ b = high.1 in
-    let other : a ≡ 128 → ⊥ = λ e. omega arith in
-    rw (le-ltb a 128 big, ne_eqb a 128 other, le-ltb b 128 more)
-cut_reads p (a ∷ b ∷ d ∷ ds) c =
-    let n = c.number in
-    by_length n (first_byte p (a ∷ b ∷ d ∷ ds) ≡ Err (fault Ends p))
-    (λ l. absurd (omega (arith, simp length-append at (ap length (c.whole ∙ one_byte n l)))))
-    (λ l m. absurd (omega (arith, simp length-append at (ap length (c.whole ∙ two_bytes n l m)))))
-    (λ l. absurd (omega (arith, simp length-append at (ap length (c.whole ∙ three_bytes n l)))))
+cut_reads p (a ∷ []) c = let e = c.whole in grind (arith, nat_tests)
+cut_reads p (a ∷ b ∷ []) c = let e = c.whole in grind (arith, nat_tests)
+cut_reads p (a ∷ b ∷ d ∷ ds) c = let e = simp length-append at (ap length c.whole) in grind (arith, nat_tests)
 
 pub cut_ends : (s : List ℕ) (p : ℕ) → p ≤ length s → Cut (drop p s) → number_at s p ≡ Err (fault Ends p)
 cut_ends s p h c = from_first s p h ∙ cut_reads p (drop p s) c
@@ -110,21 +36,8 @@ cut_ends s p h c = from_first s p h ∙ cut_reads p (drop p s) c
 malformed_reads : (p o : ℕ) (bs : List ℕ) → Malformed bs p o → first_byte p bs ≡ Err (fault Form o)
 malformed_reads p o bs m =
     ⊎_elim
-    (λ x. rw x.0
-    (⊎_elim
-    (λ y. rw y.1)
-    (λ y.
-    let big : 128 ≤ y.one = omega (arith, y.high_one) in
-    let other : y.one ≡ 128 → ⊥ = λ e. omega (arith, y.high_one) in
-    rw (y.whole, le-ltb y.one 128 big, ne_eqb y.one 128 other, le-ltb y.two 128 y.high_two, le-ltb y.three 128 y.high_three))
-    x.1))
-    (λ x.
-    let n = x.1.number in
-    let large : 16384 ≤ n = omega (arith, x.1.large) in
-    let low : n % 128 < 128 = omega arith in
-    let value : n / 128 * 128 + n % 128 ≡ n = omega arith in
-    rw (x.0, x.1.begins.whole)
-    (third_reads n p x.1.begins.rest large x.1.three_bytes ∙ rw (lt-ltb (n % 128) 128 low, value, lt-leb n 65535 x.1.large)))
+    (λ x. rw x.0 (⊎_elim (λ y. rw y.1) (λ y. let i = y.high_one in let j = y.high_two in let k = y.high_three in rw y.whole (grind (arith, nat_tests))) x.1))
+    (λ x. let i = x.1.large in let j = x.1.three_bytes in rw (x.0, x.1.begins.whole) (grind (arith, nat_tests)))
     m
 
 pub malformed_stops : (s : List ℕ) (p o : ℕ) → p ≤ length s → Malformed (drop p s) p o → number_at s p ≡ Err (fault Form o)
@@ -137,89 +50,67 @@ abbrev pub NumberTold : ℕ → List ℕ → Answer ℕ → Type 0
 NumberTold p bs (Ok x) = Begins bs x.0 × (x.0 ≤ 65535) × (x.1 ≡ p + length (written_number x.0))
 NumberTold p bs (Err f) = ((f ≡ fault Ends p) × Cut bs) ⊎ ((o : ℕ) × (f ≡ fault Form o) × Malformed bs p o)
 
--- any byte above 128 begins a number of two bytes, and goes on so to one of three
-cut_one : (a : ℕ) → 128 < a → a < 256 → Cut (a ∷ [])
-cut_one a h k =
-    let n : ℕ = (a - 128) * 128 in
-    let low : 128 ≤ n = omega arith in
-    let high : n < 16384 = omega arith in
-    let ea : 128 + n / 128 ≡ a = omega arith in
-    record { number = n; three_bytes = omega arith; next = n % 128; more = []; whole = sym (two_bytes n low high ∙ rw ea) }
+module _ (a : ℕ) (h : 128 < a) (k : a < 256) where
+  -- any byte above 128 begins a number of two bytes, and goes on so to one of three
+  two_are : (b : ℕ) → b < 128 → written_number ((a - 128) * 128 + b) ≡ a ∷ b ∷ []
+  two_are b l = grind (arith, nat_tests)
 
-module _ (a b : ℕ) (h : 128 < a) (k : a < 256) (i : 128 ≤ b) (j : b < 256) where
-  three_are : (c : ℕ) → c < 128 → written_number (((a - 128) * 128 + (b - 128)) * 128 + c) ≡ a ∷ b ∷ c ∷ []
-  three_are c l =
-      let n : ℕ = ((a - 128) * 128 + (b - 128)) * 128 + c in
-      let large : 16384 ≤ n = omega arith in
-      let ea : 128 + n / 16384 ≡ a = omega arith in
-      let eb : 128 + n / 128 % 128 ≡ b = omega arith in
-      let ec : n % 128 ≡ c = omega arith in
-      three_bytes n large ∙ rw (ea, eb, ec)
+  cut_one : Cut (a ∷ [])
+  cut_one = record { number = (a - 128) * 128 + 0; three_bytes = omega arith; next = 0; more = []; whole = sym (two_are 0 (omega arith)) }
 
-  cut_two : Cut (a ∷ b ∷ [])
-  cut_two = record {
-    number = ((a - 128) * 128 + (b - 128)) * 128 + 0;
-    three_bytes = omega arith;
-    next = 0;
-    more = [];
-    whole = sym (three_are 0 (omega arith));
-  }
+  module _ (b : ℕ) (i : 128 ≤ b) (j : b < 256) where
+    three_are : (c : ℕ) → c < 128 → written_number (((a - 128) * 128 + (b - 128)) * 128 + c) ≡ a ∷ b ∷ c ∷ []
+    three_are c l = grind (arith, nat_tests)
 
-  third_told : (p : ℕ) (cs : List ℕ) → NumberTold p (a ∷ b ∷ cs) (third_byte p ((a - 128) * 128 + (b - 128)) cs)
-  third_told p [] = inl (refl, cut_two)
-  third_told p (c ∷ cs) =
-      let n : ℕ = ((a - 128) * 128 + (b - 128)) * 128 + c in
+    cut_two : Cut (a ∷ b ∷ [])
+    cut_two = record {
+      number = ((a - 128) * 128 + (b - 128)) * 128 + 0;
+      three_bytes = omega arith;
+      next = 0;
+      more = [];
+      whole = sym (three_are 0 (omega arith));
+    }
+
+    third_told : (p : ℕ) (cs : List ℕ) → NumberTold p (a ∷ b ∷ cs) (third_byte p ((a - 128) * 128 + (b - 128)) cs)
+    third_told p [] = inl (refl, cut_two)
+    third_told p (c ∷ cs) =
+        let n : ℕ = ((a - 128) * 128 + (b - 128)) * 128 + c in
+        ⊎_elim
+        (λ l.
+        let is : written_number n ≡ a ∷ b ∷ c ∷ [] = three_are c l in
+        let begun : Begins (a ∷ b ∷ c ∷ cs) n = record { rest = cs; whole = rw is } in
+        ⊎_elim
+        (λ m. let small : n ≤ 65535 = omega arith in rw (lt-ltb c 128 l, le-leb n 65535 small) (begun, small, rw is))
+        (λ m.
+        let big : 65535 < n = omega arith in
+        let three : n < 2097152 = omega arith in
+        rw (lt-ltb c 128 l, lt-leb n 65535 big) (inr (p + 2, refl, inr (refl, record { number = n; begins = begun; large = big; three_bytes = three }))))
+        (cases_lt n 65536))
+        (λ l. rw (le-ltb c 128 l) (inr (p, refl, inl (refl, inr (record { one = a; two = b; three = c; rest = cs; whole = refl; high_one = h; high_two = i; high_three = l })))))
+        (cases_lt c 128)
+
+  second_told : (p : ℕ) (bs : List ℕ) → Bytes bs → NumberTold p (a ∷ bs) (second_byte p (a - 128) bs)
+  second_told p [] B = inl (refl, cut_one)
+  second_told p (b ∷ bs) B =
       ⊎_elim
-      (λ l.
-      let is : written_number n ≡ a ∷ b ∷ c ∷ [] = three_are c l in
-      let begun : Begins (a ∷ b ∷ c ∷ cs) n = record { rest = cs; whole = rw is } in
-      ⊎_elim
-      (λ m. let small : n ≤ 65535 = omega arith in rw (lt-ltb c 128 l, le-leb n 65535 small) (begun, small, rw is))
-      (λ m.
-      let big : 65535 < n = omega arith in
-      let three : n < 2097152 = omega arith in
-      rw (lt-ltb c 128 l, lt-leb n 65535 big)
-      (inr (p + 2, refl, inr (refl, record { number = n; begins = begun; large = big; three_bytes = three }))))
-      (cases_lt n 65536))
-      (λ l. rw (le-ltb c 128 l) (inr (p, refl, inl (refl, inr (record { one = a; two = b; three = c; rest = cs; whole = refl; high_one = h; high_two = i; high_three = l })))))
-      (cases_lt c 128)
-
-second_told : (p a : ℕ) (bs : List ℕ) → 128 < a → a < 256 → Bytes bs → NumberTold p (a ∷ bs) (second_byte p (a - 128) bs)
-second_told p a [] h k B = inl (refl, cut_one a h k)
-second_told p a (b ∷ bs) h k B =
-    ⊎_elim
-    (λ l.
-    let n : ℕ = (a - 128) * 128 + b in
-    let low : 128 ≤ n = omega arith in
-    let high : n < 16384 = omega arith in
-    let ea : 128 + n / 128 ≡ a = omega arith in
-    let eb : n % 128 ≡ b = omega arith in
-    let is : written_number n ≡ a ∷ b ∷ [] = two_bytes n low high ∙ rw (ea, eb) in
-    let small : n ≤ 65535 = omega arith in
-    rw (lt-ltb b 128 l) (record { rest = bs; whole = rw is }, small, rw is))
-    (λ l. rw (le-ltb b 128 l) (third_told a b h k l (B 0) p bs))
-    (cases_lt b 128)
+      (λ l. let is = two_are b l in rw (lt-ltb b 128 l) (record { rest = bs; whole = rw is }, omega arith, rw is))
+      (λ l. rw (le-ltb b 128 l) (third_told b l (B 0) p bs))
+      (cases_lt b 128)
 
 first_told : (p : ℕ) (bs : List ℕ) → Bytes bs → NumberTold p bs (first_byte p bs)
 first_told p [] B = inl (refl, record { number = 0; three_bytes = omega arith; next = 0; more = []; whole = refl })
 first_told p (a ∷ bs) B =
     ⊎_elim
-    (λ l. rw (lt-ltb a 128 l) (record { rest = bs; whole = rw (one_byte a l) }, omega arith, rw (one_byte a l)))
+    (λ l. let is : written_number a ≡ a ∷ [] = rw (lt-ltb a 128 l) in rw (lt-ltb a 128 l) (record { rest = bs; whole = rw is }, omega arith, rw is))
     (λ l.
     ⊎_elim
     (λ z. rw (le-ltb a 128 l, eq-eqb a 128 z) (inr (p, refl, inl (refl, inl (bs, rw z)))))
-    (λ z. let more : 128 < a = omega arith in rw (le-ltb a 128 l, ne_eqb a 128 z) (second_told p a bs more (B 0) (λ k. B (suc k))))
+    (λ z. rw (le-ltb a 128 l, ne_eqb a 128 z) (second_told a (omega arith) (B 0) p bs (λ k. B (suc k))))
     (cases_eq a 128))
     (cases_lt a 128)
 
-pub number_told : (s : List ℕ) (p : ℕ) → Bytes s → p ≤ length s → NumberTold p (drop p s) (number_at s p)
-number_told s p B h = rw (from_first s p h) (first_told p (drop p s) (λ k. rw get_or-drop (B (p + k))))
+pub number_told : (s : List ℕ) (p : ℕ) (r : Answer ℕ) → Bytes s → p ≤ length s → number_at s p ≡ r → NumberTold p (drop p s) r
+number_told s p r B h e = rw (← e, from_first s p h) (first_told p (drop p s) (λ k. rw get_or-drop (B (p + k))))
 
 pub number_wrote : (s : List ℕ) (p q n : ℕ) → Bytes s → p ≤ length s → number_at s p ≡ Ok (n, q) → Stands s p q (written_number n) × (n ≤ 65535)
-number_wrote s p q n B h e =
-    let t = subst (NumberTold p (drop p s)) e (number_told s p B h) in
-    let w = t.0.whole in
-    let back : drop q s ≡ t.0.rest =
-    ap (λ m. drop m s) t.2 ∙ sym (drop-drop (length (written_number n)) p s) ∙ ap (drop (length (written_number n))) w
-    ∙ drop_at (written_number n) t.0.rest (length (written_number n)) refl in
-    (record { after = t.2; bytes = w ∙ ap (λ l. written_number n ++ l) (sym back) }, t.1)
+number_wrote s p q n B h e = let t = number_told s p (Ok (n, q)) B h e in (rw t.2 (begins_stands t.0), t.1)

@@ -1,8 +1,9 @@
 -- What has been read of a sheet, event by event, and what is told where reading ends. Assumes nothing.
-use Rattle.std.proofs.Common.{◌≡◌, ℕ, ◌+◌, ◌<◌, ◌≤◌, ◌⊎◌, List, [], ◌∷◌, ◌++◌, length, Some, None, Ok, Err, Option, Result, sym, refl, ap, ◌∙◌, subst, inl, inr, ⊎_elim, add-zero, zero-add, arith}
+use Rattle.std.proofs.Common.{◌≡◌, ℕ, ◌+◌, ◌<◌, ◌≤◌, cond, ltb, List, [], ◌∷◌, ◌++◌, length, Some, None, Ok, Err, Option, Result, refl, subst, inl, inr, arith}
 use Rattle.std.proofs.ByRecursion.{All-push}
 use Rattle.std.proofs.lemmas.List.{length-append, flat_map_more}
-use Rattle.std.proofs.lemmas.Bool.{cases_lt, le-leb, le-ltb, lt-leb, lt-ltb}
+use Rattle.std.proofs.lemmas.Bool.{le-leb, lt-leb}
+use Rattle.std.proofs.lemmas.Bool.Decides.{nat_tests}
 use Rattle.std.specs.List.{flat_map}
 use Rattle.events.specs.declared.event.LocatedEvent.{LocatedEvent}
 use Rattle.events.specs.declared.event.SectionEvent.{SectionEvent}
@@ -14,9 +15,9 @@ use Rattle.format.specs.declared.fault.Reason.TheVariants.{Value}
 use Rattle.format.specs.Layouts.{and_then, event_at, next_at}
 use Rattle.format.specs.Numbers.{Answer, Bytes, fault}
 use Rattle.format.specs.Openings.{count_at, opening}
-use Rattle.format.specs.Sheets.{Stands, Told}
+use Rattle.format.specs.Sheets.{Outcome, Stands, Told}
 use Rattle.format.proofs.EventLaws.{event_wrote}
-use Rattle.format.proofs.SheetLaws.{Course, Sofar, course_tells, event_long, sofar_opened, sofar_whole}
+use Rattle.format.proofs.SheetLaws.{Course, Ended, Sofar, course_tells, event_long, sofar_opened, sofar_whole}
 use Rattle.format.proofs.Standing.{stands_join, stands_none}
 
 -- The next event.
@@ -24,34 +25,21 @@ use Rattle.format.proofs.Standing.{stands_join, stands_none}
 abbrev at_place : ℕ → SectionEvent → LocatedEvent
 at_place p e = record { offset = p; told = e }
 
-abbrev placed : ℕ → Answer SectionEvent → Answer (Option LocatedEvent)
-placed p r = and_then r (λ e q. Ok (Some (at_place p e), q))
+-- what is answered at p, where an event's answer is r: an event is wanted before the sheet's end, and none at it
+abbrev next : List ℕ → ℕ → Answer SectionEvent → Answer (Option LocatedEvent)
+next s p r = cond (ltb p (length s)) (and_then r (λ e q. Ok (Some (at_place p e), q))) (Ok (None, p))
 
-placed_some : (p q : ℕ) (r : Answer SectionEvent) (v : LocatedEvent) → placed p r ≡ Ok (Some v, q) → (v.offset ≡ p) × (r ≡ Ok (v.told, q))
-placed_some p q (Ok x) v e =
-    let same : ◌≡◌ {A = Option LocatedEvent × ℕ} (Some (at_place p x.0), x.1) (Some v, q) = cc in
-    let one : at_place p x.0 ≡ v = let z = ap (λ y. y.0) same in cc in
-    (sym (ap (λ y. y.offset) one), λ i. Ok ((one i).told, (same i).1))
-placed_some p q (Err f) v e = absurd (cc)
+next_some : (s : List ℕ) (p q : ℕ) (r : Answer SectionEvent) (v : LocatedEvent) → next s p r ≡ Ok (Some v, q) → (p < length s) × (v.offset ≡ p) × (r ≡ Ok (v.told, q))
+next_some s p q (Ok x) v e = grind (arith, nat_tests)
+next_some s p q (Err f) v e = grind (arith, nat_tests)
 
-placed_none : (p q : ℕ) (r : Answer SectionEvent) → placed p r ≡ Ok (None, q) → ⊥
-placed_none p q (Ok x) e =
-    let same : ◌≡◌ {A = Option LocatedEvent × ℕ} (Some (at_place p x.0), x.1) (None, q) = cc in
-    let other = ap (λ y. y.0) same in
-    cc
-placed_none p q (Err f) e = cc
+next_none : (s : List ℕ) (p q : ℕ) (r : Answer SectionEvent) → next s p r ≡ Ok (None, q) → length s ≤ p
+next_none s p q (Ok x) e = grind (arith, nat_tests)
+next_none s p q (Err f) e = grind (arith, nat_tests)
 
-placed_err : (p : ℕ) (r : Answer SectionEvent) (f : ReadFault) → placed p r ≡ Err f → r ≡ Err f
-placed_err p (Ok x) f e = absurd (cc)
-placed_err p (Err g) f e = cc
-
--- an event is wanted before the sheet's end, and none at it
-next_either : (s : List ℕ) (p : ℕ) → ((p < length s) × (next_at s p ≡ placed p (event_at s p))) ⊎ ((length s ≤ p) × (next_at s p ≡ Ok (None, p)))
-next_either s p =
-    ⊎_elim
-    (λ l. inl (l, rw (lt-ltb p (length s) l)))
-    (λ l. inr (l, rw (le-ltb p (length s) l)))
-    (cases_lt p (length s))
+next_err : (s : List ℕ) (p : ℕ) (r : Answer SectionEvent) (f : ReadFault) → next s p r ≡ Err f → (p < length s) × (r ≡ Err f)
+next_err s p (Ok x) f e = grind (arith, nat_tests)
+next_err s p (Err g) f e = grind (arith, nat_tests)
 
 -- What has been read.
 
@@ -63,8 +51,8 @@ pub record Progress (s : List ℕ) (n p : ℕ) (vs : List LocatedEvent) : Type 0
   pub places : vs ≡ located (length (written_number n)) es
   pub bytes : Bytes s
 
-pub start : (s : List ℕ) (n q : ℕ) → Bytes s → opening s ≡ Ok (n, q) → Progress s n q []
-start s n q B e = record {
+pub start : {s : List ℕ} {n q : ℕ} → Bytes s → opening s ≡ Ok (n, q) → Progress s n q []
+start {s} {n} {q} B e = record {
   q = q;
   es = [];
   sofar = record { opened = e; proper = tt; stands = stands_none s q };
@@ -72,40 +60,30 @@ start s n q B e = record {
   bytes = B;
 }
 
-located_push : (p : ℕ) (es : List SectionEvent) (e : SectionEvent) → located p es ++ at_place (p + length (flat_map written_event es)) e ∷ [] ≡ located p (es ++ e ∷ [])
-located_push p [] e = rw (add-zero p)
-located_push p (d ∷ es) e =
-    ap (λ l. at_place p d ∷ l)
-    (ap (λ n. located (p + length (written_event d)) es ++ at_place n e ∷ []) (simp length-append (omega arith)) ∙ located_push (p + length (written_event d)) es e)
+located_push :
+    (p q : ℕ) (es : List SectionEvent) (e : SectionEvent) → q ≡ p + length (flat_map written_event es) → located p es ++ at_place q e ∷ [] ≡ located p (es ++ e ∷ [])
+located_push p q [] e h = let same : q ≡ p = omega arith in cc
+located_push p q (d ∷ es) e h =
+    let rest = located_push (p + length (written_event d)) q es e (omega (arith, length-append (written_event d) (flat_map written_event es))) in
+    cc
 
 -- the event that is told next stands at p
 next_wrote :
     (s : List ℕ) (n p r : ℕ) (vs : List LocatedEvent) (v : LocatedEvent)
     → Progress s n p vs → next_at s p ≡ Ok (Some v, r) → (p < length s) × (v.offset ≡ p) × (Stands s p r (written_event v.told) × Proper v.told)
 next_wrote s n p r vs v h e =
-    ⊎_elim
-    (λ x.
-    let d = placed_some p r (event_at s p) v (sym x.1 ∙ e) in
-    (x.0, d.0, event_wrote v.told s p r h.bytes (omega arith) d.1))
-    (λ x. absurd (none_some (sym x.1 ∙ e)))
-    (next_either s p)
-  where
-    none_some : {i j : ℕ} {u : LocatedEvent} → ◌≡◌ {A = Answer (Option LocatedEvent)} (Ok (None, i)) (Ok (Some u, j)) → ⊥
-    none_some {i} {j} {u} z =
-        let same : ◌≡◌ {A = Option LocatedEvent × ℕ} (None, i) (Some u, j) = cc in
-        let other = ap (λ y. y.0) same in
-        cc
+    let d = next_some s p r (event_at s p) v e in
+    (d.0, d.1, event_wrote v.told s p r h.bytes (omega arith) d.2)
 
 -- one event more, which lies further on
 pub more :
-    (s : List ℕ) (n p r : ℕ) (vs : List LocatedEvent) (v : LocatedEvent)
+    {s : List ℕ} {n p r : ℕ} {vs : List LocatedEvent} {v : LocatedEvent}
     → Progress s n p vs → next_at s p ≡ Ok (Some v, r) → Progress s n r (vs ++ v ∷ []) × (p < length s) × (p < r)
-more s n p r vs v h e =
+more {s} {n} {p} {r} {vs} {v} h e =
     let w = next_wrote s n p r vs v h e in
     let t = h.sofar in
-    let count = (sofar_opened s n h.q p h.es h.bytes t).2 in
-    let first : h.q ≡ length (written_number n) = count.after ∙ zero-add _ in
-    let here : v.offset ≡ length (written_number n) + length (flat_map written_event h.es) = omega (arith, w.1, t.stands.after, first) in (
+    let count = (sofar_opened h.bytes t).2 in
+    let here : v.offset ≡ length (written_number n) + length (flat_map written_event h.es) = omega (arith, w.1, t.stands.after, count.after) in (
       record {
         q = h.q;
         es = h.es ++ v.told ∷ [];
@@ -114,10 +92,7 @@ more s n p r vs v h e =
           proper = All-push Proper h.es v.told t.proper w.2.1;
           stands = subst (Stands s h.q r) (flat_map_more written_event [] h.es v.told) (stands_join t.stands w.2.0);
         };
-        places =
-            ap (λ l. l ++ v ∷ []) h.places
-            ∙ ap (λ m. located (length (written_number n)) h.es ++ at_place m v.told ∷ []) here
-            ∙ located_push (length (written_number n)) h.es v.told;
+        places = rw h.places (located_push (length (written_number n)) v.offset h.es v.told here);
         bytes = h.bytes;
       },
       w.0,
@@ -126,30 +101,22 @@ more s n p r vs v h e =
 
 -- Where reading ends.
 
-pub told_end : (s : List ℕ) (n p r : ℕ) (vs : List LocatedEvent) → Progress s n p vs → next_at s p ≡ Ok (None, r) → Told s (Ok tt) (Some n) vs
-told_end s n p r vs h e =
-    ⊎_elim
-    (λ x. absurd (placed_none p r (event_at s p) (sym x.1 ∙ e)))
-    (λ x.
-    let course : Course s (Ok tt) (Some n) h.es = inr (record { n = n; q = h.q; p = p; counts = refl; sofar = h.sofar; ended = inl (x.0, refl) }) in
-    record { es = h.es; tells = course_tells s (Ok tt) (Some n) h.es h.bytes course; places = h.places })
-    (next_either s p)
+told_ended : (s : List ℕ) (n p : ℕ) (r : Outcome) (vs : List LocatedEvent) → Progress s n p vs → Ended s p r → Told s r (Some n) vs
+told_ended s n p r vs h d =
+    let course : Course s r (Some n) h.es = inr (record { n = n; q = h.q; p = p; counts = refl; sofar = h.sofar; ended = d }) in
+    record { es = h.es; tells = course_tells s r (Some n) h.es h.bytes course; places = h.places }
 
-pub told_fault : (s : List ℕ) (n p : ℕ) (vs : List LocatedEvent) (f : ReadFault) → Progress s n p vs → next_at s p ≡ Err f → Told s (Err (Read f)) (Some n) vs
-told_fault s n p vs f h e =
-    ⊎_elim
-    (λ x.
-    let stops = placed_err p (event_at s p) f (sym x.1 ∙ e) in
-    let course : Course s (Err (Read f)) (Some n) h.es = inr (record { n = n; q = h.q; p = p; counts = refl; sofar = h.sofar; ended = inr (f, x.0, stops, refl) }) in
-    record { es = h.es; tells = course_tells s (Err (Read f)) (Some n) h.es h.bytes course; places = h.places })
-    (λ x. absurd (cc (e, x.1)))
-    (next_either s p)
+pub told_end : {s : List ℕ} {n p r : ℕ} {vs : List LocatedEvent} → Progress s n p vs → next_at s p ≡ Ok (None, r) → Told s (Ok tt) (Some n) vs
+told_end {s} {n} {p} {r} {vs} h e = told_ended s n p (Ok tt) vs h (inl (next_none s p r (event_at s p) e, refl))
+
+pub told_fault : {s : List ℕ} {n p : ℕ} {vs : List LocatedEvent} {f : ReadFault} → Progress s n p vs → next_at s p ≡ Err f → Told s (Err (Read f)) (Some n) vs
+told_fault {s} {n} {p} {vs} {f} h e = let d = next_err s p (event_at s p) f e in told_ended s n p (Err (Read f)) vs h (inr (f, d.0, d.1, refl))
 
 pub told_memory :
-    (s : List ℕ) (n p r : ℕ) (vs : List LocatedEvent) (v : LocatedEvent)
+    {s : List ℕ} {n p r : ℕ} {vs : List LocatedEvent} {v : LocatedEvent}
     → Progress s n p vs → next_at s p ≡ Ok (Some v, r) → Told s (Err Memory) (Some n) vs
-told_memory s n p r vs v h e =
-    let o = sofar_opened s n h.q p h.es h.bytes h.sofar in
+told_memory {s} {n} {p} {r} {vs} {v} h e =
+    let o = sofar_opened h.bytes h.sofar in
     let w = next_wrote s n p r vs v h e in
     record {
       es = h.es;
@@ -160,7 +127,7 @@ told_memory s n p r vs v h e =
         section_count = o.1;
         proper = h.sofar.proper;
         place = p;
-        stands = sofar_whole s n h.q p h.es h.bytes h.sofar;
+        stands = sofar_whole h.bytes h.sofar;
         next = v.told;
         next_proper = w.2.1;
         after = r;
@@ -169,8 +136,8 @@ told_memory s n p r vs v h e =
       places = h.places;
     }
 
-pub told_opening : (s : List ℕ) (f : RunFault) → Bytes s → opening s ≡ Err f → Told s (Err f) None []
-told_opening s f B e = record {
+pub told_opening : {s : List ℕ} {f : RunFault} → Bytes s → opening s ≡ Err f → Told s (Err f) None []
+told_opening {s} {f} B e = record {
   es = [];
   tells = course_tells s (Err f) None [] B (inl (record { why = f; answer = refl; opened = e; nothing = (refl, refl) }));
   places = refl;
@@ -182,7 +149,3 @@ opening_long s h = rw (lt-leb (length s) 65536 h)
 
 pub opening_short : (s : List ℕ) (r : Result (ℕ × ℕ) RunFault) → length s ≤ 65536 → count_at s 0 ≡ r → opening s ≡ r
 opening_short s r h e = rw (le-leb (length s) 65536 h) e
-
--- the same bytes have the same next event
-pub next_in : (s t : List ℕ) (p : ℕ) (r : Answer (Option LocatedEvent)) → s ≡ t → next_at s p ≡ r → next_at t p ≡ r
-next_in s t p r e h = ap (λ l. next_at l p) (sym e) ∙ h

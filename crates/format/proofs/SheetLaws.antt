@@ -1,7 +1,8 @@
 -- A sheet is told in one way, and each answer is what its bytes are. Assumes nothing.
-use Rattle.std.proofs.Common.{◌≡◌, ℕ, ◌+◌, ◌<◌, ◌≤◌, ◌⊎◌, List, [], ◌∷◌, ◌++◌, length, drop, Some, None, Ok, Err, Option, Result, sym, refl, ap, ◌∙◌, subst, inl, inr, ⊎_elim, append-nil, add-zero, arith}
-use Rattle.std.proofs.lemmas.List.{length-append, length-drop, drop_all, drop_at, drop-drop}
-use Rattle.std.proofs.lemmas.Bool.{cases_lt, le-leb, lt-leb}
+use Rattle.std.proofs.Common.{◌≡◌, ℕ, ◌+◌, ◌<◌, ◌≤◌, ◌⊎◌, ◌&&◌, leb, List, [], ◌∷◌, length, drop, Some, None, Ok, Err, Option, Result, refl, ◌∙◌, inl, inr, ⊎_elim, append-nil, arith}
+use Rattle.std.proofs.lemmas.List.{length-append, length-drop, drop_all}
+use Rattle.std.proofs.lemmas.Bool.{cases_Bool, cases_lt, le-leb, lt-leb}
+use Rattle.std.proofs.lemmas.Bool.Decides.{nat_tests}
 use Rattle.std.specs.List.{flat_map, AllByRecursion}
 use Rattle.events.specs.declared.event.SectionEvent.{SectionEvent}
 use Rattle.events.specs.Written.{kind_of, written_event, written_number, written_sheet, Proper}
@@ -15,9 +16,9 @@ use Rattle.format.specs.Layouts.{event_at}
 use Rattle.format.specs.Numbers.{Answer, Bytes, fault, number_at}
 use Rattle.format.specs.Openings.{counted, opening}
 use Rattle.format.specs.Sheets.{Begins, GoesOn, Malformed, Nothing, Outcome, ReadUpTo, SectionCount, Sheet, Stands, StopsFor, Tells, Wanted}
-use Rattle.format.proofs.EventLaws.{bars_stuck, event_reads, event_stopped, number_stops, value_stops, wants_begun}
-use Rattle.format.proofs.NumberLaws.{NumberTold, cut_ends, malformed_stops, number_reads, number_told, number_wrote, written_long}
-use Rattle.format.proofs.Standing.{stands_front, stands_back, stands_inside, stands_join, stands_whole, stands_within}
+use Rattle.format.proofs.EventLaws.{bars_stuck, event_reads, event_told, number_stops, value_stops, wants_begun}
+use Rattle.format.proofs.NumberLaws.{cut_ends, malformed_stops, number_reads, number_told, number_wrote, written_long}
+use Rattle.format.proofs.Standing.{begins_stands, stands_begins, stands_front, stands_back, stands_inside, stands_join, stands_whole, stands_within}
 
 -- The section count.
 
@@ -26,33 +27,42 @@ abbrev pub Opened : List ℕ → Result (ℕ × ℕ) RunFault → Type 0
 Opened s (Ok x) = (length s ≤ 65536) × SectionCount x.0 × Stands s 0 x.1 (written_number x.0)
 Opened s (Err f) = Tells s (Err f) None []
 
-stands_begins : {s : List ℕ} {p q n : ℕ} → Stands s p q (written_number n) → Begins (drop p s) n
-stands_begins {s} {p} {q} {n} t = record { rest = drop q s; whole = t.bytes }
+wanted_within : (s : List ℕ) (o : ℕ) (c : Option ℕ) (es : List SectionEvent) (ns : List ℕ) → Wanted s o c es ns → o ≤ length s
+wanted_within s o None es ns w = omega arith
+wanted_within s o (Some n) es ns w = stands_within (omega arith) w.stands
+
+-- a fault at a number that is wanted is told where that stands
+number_tells :
+    (s : List ℕ) (c : Option ℕ) (es : List SectionEvent) (ns : List ℕ) (o : ℕ) (f : ReadFault)
+    → Bytes s → length s ≤ 65536 → Wanted s o c es ns → (c ≡ None) ⊎ (0 < length ns + length (drop o s)) → number_at s o ≡ Err f
+    → StopsFor f.reason s f.offset c es
+number_tells s c es ns o f B h u i e =
+    ⊎_elim
+    (λ t. rw t.0 (record { short = h; numbers = ns; wanted = u; cut = t.1; inside = i }))
+    (λ t. rw t.1 (record { short = h; numbers = ns; place = o; wanted = u; malformed = t.2 }))
+    (number_told s o (Err f) B (wanted_within s o c es ns u) e)
+
+count_or_not : (n q : ℕ) → (SectionCount n × (counted (Ok (n, q)) ≡ Ok (n, q))) ⊎ ((SectionCount n → ⊥) × (counted (Ok (n, q)) ≡ Err Sections))
+count_or_not n q =
+    ⊎_elim
+    (λ t. inl (record { some = grind (arith, nat_tests); few = grind (arith, nat_tests) }, rw t))
+    (λ t. inr (λ c. grind (arith, nat_tests), rw t))
+    (cases_Bool (leb 1 n && leb n 8))
 
 counted_told : (s : List ℕ) → Bytes s → length s ≤ 65536 → (r : Answer ℕ) → number_at s 0 ≡ r → Opened s (counted r)
 counted_told s B h (Ok x) e =
     let w = number_wrote s 0 x.1 x.0 B (omega arith) e in
-    let bad : (SectionCount x.0 → ⊥) → Opened s (Err Sections) =
-    λ out. record { short = h; number = x.0; fits = w.1; begins = stands_begins w.0; outside = out; nothing = (refl, refl) } in
     ⊎_elim
-    (λ l. rw (lt-leb 1 x.0 l) (bad (λ c. omega (arith, c.some))))
-    (λ l.
-    ⊎_elim
-    (λ m. rw (le-leb 1 x.0 l, lt-leb x.0 8 m) (bad (λ c. omega (arith, c.few))))
-    (λ m. rw (le-leb 1 x.0 l, le-leb x.0 8 m) (h, record { some = l; few = m }, w.0))
-    (cases_lt 8 x.0))
-    (cases_lt x.0 1)
-counted_told s B h (Err f) e =
-    ⊎_elim
-    (λ t. subst (λ g. Opened s (Err (Read g))) (sym t.0) (record { short = h; numbers = []; wanted = (refl, refl, refl); cut = t.1; inside = inl refl }))
-    (λ t. subst (λ g. Opened s (Err (Read g))) (sym t.1) (record { short = h; numbers = []; place = 0; wanted = (refl, refl, refl); malformed = t.2 }))
-    (subst (NumberTold 0 s) e (number_told s 0 B (omega arith)))
+    (λ t. rw t.1 (h, t.0, w.0))
+    (λ t. rw t.1 (record { short = h; number = x.0; fits = w.1; begins = stands_begins w.0; outside = t.0; nothing = (refl, refl) }))
+    (count_or_not x.0 x.1)
+counted_told s B h (Err f) e = number_tells s None [] [] 0 f B h (refl, refl, refl) (inl refl) e
 
-opening_told : (s : List ℕ) → Bytes s → Opened s (opening s)
-opening_told s B =
+opening_told : (s : List ℕ) (r : Result (ℕ × ℕ) RunFault) → Bytes s → opening s ≡ r → Opened s r
+opening_told s r B e =
     ⊎_elim
-    (λ l. rw (lt-leb (length s) 65536 l) (inr (record { long = l; end = refl; nothing = (refl, refl) })))
-    (λ l. rw (le-leb (length s) 65536 l) (counted_told s B l (number_at s 0) refl))
+    (λ l. rw (← e, lt-leb (length s) 65536 l) (inr (record { long = l; end = refl; nothing = (refl, refl) })))
+    (λ l. rw (← e, le-leb (length s) 65536 l) (counted_told s B l (number_at s 0) refl))
     (cases_lt 65536 (length s))
 
 opening_number : (s : List ℕ) (r : Answer ℕ) → length s ≤ 65536 → number_at s 0 ≡ r → opening s ≡ counted r
@@ -63,12 +73,7 @@ opening_reads s n q h c t =
     opening_number s (Ok (n, q)) h (number_reads s 0 q n (omega (arith, c.few)) t) ∙ rw (le-leb 1 n c.some, le-leb n 8 c.few)
 
 opening_miscounts : (s : List ℕ) (n q : ℕ) → length s ≤ 65536 → number_at s 0 ≡ Ok (n, q) → (SectionCount n → ⊥) → opening s ≡ Err Sections
-opening_miscounts s n q h e out =
-    opening_number s (Ok (n, q)) h e
-    ∙ ⊎_elim
-    (λ l. rw (lt-leb 1 n l))
-    (λ l. ⊎_elim (λ m. rw (le-leb 1 n l, lt-leb n 8 m)) (λ m. absurd (out (record { some = l; few = m }))) (cases_lt 8 n))
-    (cases_lt n 1)
+opening_miscounts s n q h e out = opening_number s (Ok (n, q)) h e ∙ ⊎_elim (λ t. absurd (out t.0)) (λ t. t.1) (count_or_not n q)
 
 -- How reading goes.
 
@@ -102,46 +107,36 @@ Course s r sections es = Uncounted s r sections es ⊎ Counted s r sections es
 
 -- What a sheet tells is what is answered.
 
-pub sofar_opened : (s : List ℕ) (n q p : ℕ) (es : List SectionEvent) → Bytes s → Sofar s n q p es → Opened s (Ok (n, q))
-sofar_opened s n q p es B h = subst (Opened s) h.opened (opening_told s B)
+pub sofar_opened : {s : List ℕ} {n q p : ℕ} {es : List SectionEvent} → Bytes s → Sofar s n q p es → Opened s (Ok (n, q))
+sofar_opened B h = opening_told _ _ B h.opened
 
 -- the count and the events stand one after another
-pub sofar_whole : (s : List ℕ) (n q p : ℕ) (es : List SectionEvent) → Bytes s → Sofar s n q p es → Stands s 0 p (written_sheet n es)
-sofar_whole s n q p es B h = stands_join (sofar_opened s n q p es B h).2 h.stands
-
-number_tells :
-    (s : List ℕ) (n : ℕ) (es : List SectionEvent) (ns : List ℕ) (o : ℕ) (f : ReadFault)
-    → Bytes s → length s ≤ 65536 → o ≤ length s → ReadUpTo s o n es ns → 0 < length ns + length (drop o s) → number_at s o ≡ Err f
-    → StopsFor f.reason s f.offset (Some n) es
-number_tells s n es ns o f B h l u i e =
-    ⊎_elim
-    (λ t. subst (λ g. StopsFor g.reason s g.offset (Some n) es) (sym t.0) (record { short = h; numbers = ns; wanted = u; cut = t.1; inside = inr i }))
-    (λ t. subst (λ g. StopsFor g.reason s g.offset (Some n) es) (sym t.1) (record { short = h; numbers = ns; place = o; wanted = u; malformed = t.2 }))
-    (subst (NumberTold o (drop o s)) e (number_told s o B l))
+pub sofar_whole : {s : List ℕ} {n q p : ℕ} {es : List SectionEvent} → Bytes s → Sofar s n q p es → Stands s 0 p (written_sheet n es)
+sofar_whole B h = stands_join (sofar_opened B h).2 h.stands
 
 -- an event that stops has begun, or the sheet goes on
 something_left : (s : List ℕ) (p o : ℕ) (ns : List ℕ) → p < length s → Stands s p o (flat_map written_number ns) → 0 < length ns + length (drop o s)
-something_left s p o [] h t = let same : o ≡ p = t.after ∙ add-zero p in omega (arith, length-drop o s)
+something_left s p o [] h t = omega (arith, length-drop o s)
 something_left s p o (n ∷ ns) h t = omega arith
 
 event_stops :
-    (s : List ℕ) (n q p : ℕ) (es : List SectionEvent) (f : ReadFault)
+    {s : List ℕ} {n q p : ℕ} {es : List SectionEvent} {f : ReadFault}
     → Bytes s → Sofar s n q p es → p < length s → event_at s p ≡ Err f → StopsFor f.reason s f.offset (Some n) es
-event_stops s n q p es f B h l e =
-    let o = sofar_opened s n q p es B h in
-    let t = event_stopped s p f B (omega arith) e in
+event_stops {s} {n} {q} {p} {es} {f} B h l e =
+    let o = sofar_opened B h in
+    let t = event_told s p (Err f) B (omega arith) e in
     let within : t.place ≤ length s = stands_within (omega arith) t.stands in
     let u : ReadUpTo s t.place n es t.numbers = record {
       sections = o.1;
       proper = h.proper;
       begun = wants_begun t.numbers t.wants;
-      stands = stands_join (sofar_whole s n q p es B h) t.stands;
+      stands = stands_join (sofar_whole B h) t.stands;
     } in
     ⊎_elim
-    (λ c. number_tells s n es t.numbers t.place f B o.0 within u (something_left s p t.place t.numbers l t.stands) c)
+    (λ c. number_tells s (Some n) es t.numbers t.place f B o.0 u (inr (something_left s p t.place t.numbers l t.stands)) c)
     (λ c.
     let w = number_wrote s t.place c.1 c.0 B within c.2 in
-    subst (λ g. StopsFor g.reason s g.offset (Some n) es) (sym c.3)
+    rw c.3
     (inl (record {
       short = o.0;
       numbers = t.numbers;
@@ -158,18 +153,16 @@ event_stops s n q p es f B h l e =
 pub course_tells : (s : List ℕ) (r : Outcome) (c : Option ℕ) (es : List SectionEvent) → Bytes s → Course s r c es → Tells s r c es
 course_tells s r c es B t =
     ⊎_elim
-    (λ u.
-    let told : Tells s (Err u.why) None [] = subst (Opened s) u.opened (opening_told s B) in
-    rw (u.answer, u.nothing.0, u.nothing.1) told)
+    (λ u. rw (u.answer, u.nothing.0, u.nothing.1) (opening_told s (Err u.why) B u.opened))
     (λ d.
     let h = d.sofar in
-    let o = sofar_opened s d.n d.q d.p es B h in
+    let o = sofar_opened B h in
     ⊎_elim
     (λ e.
-    let whole = sofar_whole s d.n d.q d.p es B h in
-    let bytes = whole.bytes ∙ ap (λ l. written_sheet d.n es ++ l) (drop_all d.p s e.0) ∙ append-nil (written_sheet d.n es) in
+    let whole = sofar_whole B h in
+    let bytes = rw (drop_all d.p s e.0, append-nil) at whole.bytes in
     rw e.1 (d.n, d.counts, record { bytes = bytes; short = o.0; sections = o.1; proper = h.proper }))
-    (λ e. rw (e.3, d.counts) (event_stops s d.n d.q d.p es e.0 B h e.1 e.2))
+    (λ e. rw (e.3, d.counts) (event_stops B h e.1 e.2))
     d.ended)
     t
 
@@ -178,102 +171,76 @@ course_tells s r c es B t =
 pub event_long : (e : SectionEvent) → 1 ≤ length (written_event e)
 event_long e = simp length-append (omega (arith, written_long (kind_number (kind_of e.event))))
 
+numbers_long : (ns : List ℕ) → length ns ≤ length (flat_map written_number ns)
+numbers_long [] = omega arith
+numbers_long (n ∷ ns) = simp length-append (omega (arith, written_long n, numbers_long ns))
+
 module _ (s : List ℕ) where
-  -- a fault at the section count
-  wanted_count : (p : ℕ) (es : List SectionEvent) (ns : List ℕ) (f : ReadFault) → length s ≤ 65536 → Wanted s p None es ns → number_at s p ≡ Err f → Course s (Err (Read f)) None es
-  wanted_count p es ns f h w e =
-      let first : number_at s 0 ≡ Err f = ap (number_at s) (sym w.0) ∙ e in
-      inl (record { why = Read f; answer = refl; opened = opening_number s (Err f) h first; nothing = (refl, w.1) })
+  sofar_read :
+      (n p : ℕ) (es : List SectionEvent) → length s ≤ 65536 → SectionCount n → AllByRecursion Proper es → Stands s 0 p (written_sheet n es)
+      → Sofar s n (0 + length (written_number n)) p es
+  sofar_read n p es h c i t = record { opened = opening_reads s n _ h c (stands_front _ _ t); proper = i; stands = stands_back _ _ t }
 
   module _ (o n : ℕ) (es : List SectionEvent) (ns : List ℕ) (h : length s ≤ 65536) (u : ReadUpTo s o n es ns) where
     whole : Stands s 0 (0 + length (written_sheet n es)) (written_sheet n es)
-    whole = stands_front (written_sheet n es) (flat_map written_number ns) u.stands
+    whole = stands_front _ _ u.stands
 
     begun : Stands s (0 + length (written_sheet n es)) o (flat_map written_number ns)
-    begun = stands_back (written_sheet n es) (flat_map written_number ns) u.stands
-
-    sofar : Sofar s n (0 + length (written_number n)) (0 + length (written_sheet n es)) es
-    sofar = record {
-      opened = opening_reads s n _ h u.sections (stands_front (written_number n) (flat_map written_event es) whole);
-      proper = u.proper;
-      stands = stands_back (written_number n) (flat_map written_event es) whole;
-    }
+    begun = stands_back _ _ u.stands
 
     inside_event : 0 < length ns + length (drop o s) → 0 + length (written_sheet n es) < length s
     inside_event i =
         let within : o ≤ length s = stands_within (omega arith) u.stands in
-        left_of ns begun i
-      where
-        left_of : (ms : List ℕ) → Stands s (0 + length (written_sheet n es)) o (flat_map written_number ms) → 0 < length ms + length (drop o s) → 0 + length (written_sheet n es) < length s
-        left_of [] t j = let same : o ≡ 0 + length (written_sheet n es) = t.after ∙ add-zero _ in omega (arith, length-drop o s)
-        left_of (m ∷ ms) t j = stands_inside t (simp length-append (omega (arith, written_long m)))
+        omega (arith, numbers_long ns, begun.after, length-drop o s)
 
     stopped : (f : ReadFault) → 0 < length ns + length (drop o s) → event_at s (0 + length (written_sheet n es)) ≡ Err f → Course s (Err (Read f)) (Some n) es
-    stopped f i e = inr (record { n = n; q = _; p = _; counts = refl; sofar = sofar; ended = inr (f, inside_event i, e, refl) })
+    stopped f i e = inr (record { n = n; q = _; p = _; counts = refl; sofar = sofar_read n _ es h u.sections u.proper whole; ended = inr (f, inside_event i, e, refl) })
 
     number_fault : (f : ReadFault) → number_at s o ≡ Err f → 0 < length ns + length (drop o s) → Course s (Err (Read f)) (Some n) es
     number_fault f e i = stopped f i (number_stops s _ o ns f u.begun begun e)
 
-    value_fault : (m r : ℕ) → number_at s o ≡ Ok (m, r) → m ≤ 65535 → (GoesOn ns m → ⊥) → o < length s → Course s (Err (Read (fault Value o))) (Some n) es
-    value_fault m r e fits stuck l =
-        stopped (fault Value o) (omega (arith, length-drop o s)) (value_stops s _ o r ns m fits u.begun stuck begun e)
-
-begins_stands : {s : List ℕ} {p n : ℕ} → Begins (drop p s) n → Stands s p (p + length (written_number n)) (written_number n)
-begins_stands {s} {p} {n} b = record {
-  after = refl;
-  bytes =
-      b.whole
-      ∙ ap (λ l. written_number n ++ l) (sym (sym (drop-drop (length (written_number n)) p s) ∙ ap (drop (length (written_number n))) b.whole ∙ drop_at (written_number n) b.rest (length (written_number n)) refl));
-}
+    value_fault : (m : ℕ) → m ≤ 65535 → Begins (drop o s) m → (GoesOn ns m → ⊥) → Course s (Err (Read (fault Value o))) (Some n) es
+    value_fault m fits b stuck =
+        let at = begins_stands b in
+        let inside = stands_inside at (written_long m) in
+        stopped (fault Value o) (omega (arith, length-drop o s)) (value_stops s _ o _ ns m fits u.begun stuck begun (number_reads s o _ m fits at))
 
 malformed_some : {bs : List ℕ} {p o : ℕ} → Malformed bs p o → 0 < length bs
-malformed_some {bs} m =
-    ⊎_elim
-    (λ x. ⊎_elim (λ y. rw y.1 (omega arith)) (λ y. rw y.whole (omega arith)) x.1)
-    (λ x. rw x.1.begins.whole (simp length-append (omega (arith, written_long x.1.number))))
-    m
+malformed_some m = grind (arith, length-append, written_long)
 
 module _ (s : List ℕ) where
+  wanted_fault :
+      (o : ℕ) (c : Option ℕ) (es : List SectionEvent) (ns : List ℕ) (f : ReadFault)
+      → length s ≤ 65536 → Wanted s o c es ns → (c ≡ None) ⊎ (0 < length ns + length (drop o s)) → number_at s o ≡ Err f → Course s (Err (Read f)) c es
+  wanted_fault o None es ns f h w i e =
+      inl (record { why = Read f; answer = refl; opened = opening_number s (Err f) h (rw w.0 at e); nothing = (refl, w.1) })
+  wanted_fault o (Some n) es ns f h w i e = number_fault s o n es ns h w f e (⊎_elim (λ z. cc) (λ z. z) i)
+
   stops_course : (reason : Reason) (o : ℕ) (c : Option ℕ) (es : List SectionEvent) → StopsFor reason s o c es → Course s (Err (Read (fault reason o))) c es
-  stops_course Ends o None es t =
-      wanted_count s o es t.numbers (fault Ends o) t.short t.wanted (cut_ends s o (omega (arith, t.wanted.0)) t.cut)
-  stops_course Ends o (Some n) es t =
-      let within : o ≤ length s = stands_within (omega arith) t.wanted.stands in
-      let left : 0 < length t.numbers + length (drop o s) = ⊎_elim (λ e. cc) (λ i. i) t.inside in
-      number_fault s o n es t.numbers t.short t.wanted (fault Ends o) (cut_ends s o within t.cut) left
-  stops_course Form o None es t =
-      wanted_count s t.place es t.numbers (fault Form o) t.short t.wanted (malformed_stops s t.place o (omega (arith, t.wanted.0)) t.malformed)
-  stops_course Form o (Some n) es t =
-      let within : t.place ≤ length s = stands_within (omega arith) t.wanted.stands in
-      number_fault s t.place n es t.numbers t.short t.wanted (fault Form o) (malformed_stops s t.place o within t.malformed) (omega (arith, malformed_some t.malformed))
+  stops_course Ends o c es t =
+      wanted_fault o c es t.numbers _ t.short t.wanted t.inside (cut_ends s o (wanted_within s o c es t.numbers t.wanted) t.cut)
+  stops_course Form o c es t =
+      let within = wanted_within s t.place c es t.numbers t.wanted in
+      wanted_fault t.place c es t.numbers _ t.short t.wanted (inr (omega (arith, malformed_some t.malformed))) (malformed_stops s t.place o within t.malformed)
   stops_course Value o c es t =
       ⊎_elim
-      (λ v.
-      let at = begins_stands v.begins in
-      subst (λ d. Course s (Err (Read (fault Value o))) d es) (sym v.counted)
-      (value_fault s o v.count es v.numbers v.short v.read v.number _ (number_reads s o _ v.number v.fits at) v.fits v.stuck (stands_inside at (written_long v.number))))
-      (λ l.
-      rw l.end (inl (record { why = Read (fault Value 65536); answer = refl; opened = rw (lt-leb (length s) 65536 l.long); nothing = l.nothing })))
+      (λ v. rw v.counted (value_fault s o v.count es v.numbers v.short v.read v.number v.fits v.begins v.stuck))
+      (λ l. rw l.end (inl (record { why = Read (fault Value 65536); answer = refl; opened = rw (lt-leb (length s) 65536 l.long); nothing = l.nothing })))
       t
 
   sheet_course : (n : ℕ) (es : List SectionEvent) → Sheet s n es → Course s (Ok tt) (Some n) es
   sheet_course n es h =
-      let all = stands_whole s (written_sheet n es) h.bytes in
       inr (record {
         n = n;
         q = _;
         p = length s;
         counts = refl;
-        sofar = record {
-          opened = opening_reads s n _ h.short h.sections (stands_front (written_number n) (flat_map written_event es) all);
-          proper = h.proper;
-          stands = stands_back (written_number n) (flat_map written_event es) all;
-        };
+        sofar = sofar_read s n _ es h.short h.sections h.proper (stands_whole s (written_sheet n es) h.bytes);
         ended = inl (omega arith, refl);
       })
 
   pub tells_course : (r : Outcome) (c : Option ℕ) (es : List SectionEvent) → Tells s r c es → (r ≡ Err Memory) ⊎ Course s r c es
-  tells_course (Ok x) c es t = inr (subst (λ d. Course s (Ok tt) d es) (sym t.1) (sheet_course t.0 es t.2))
+  tells_course (Ok x) c es t = inr (rw t.1 (sheet_course t.0 es t.2))
   tells_course (Err (Read f)) c es t = inr (stops_course f.reason f.offset c es t)
   tells_course (Err Sections) c es t =
       inr (inl (record {
@@ -288,23 +255,14 @@ module _ (s : List ℕ) where
 
 module _ (s : List ℕ) where
   ended_one : (p : ℕ) (r t : Outcome) → Ended s p r → Ended s p t → r ≡ t
-  ended_one p r t a b =
-      ⊎_elim
-      (λ x. ⊎_elim (λ y. x.1 ∙ sym y.1) (λ y. absurd (omega (arith, x.0, y.1))) b)
-      (λ x.
-      ⊎_elim
-      (λ y. absurd (omega (arith, x.1, y.0)))
-      (λ y. cc (x.2, x.3, y.2, y.3))
-      b)
-      a
+  ended_one p r t a b = grind arith
 
   -- reading does not end where an event stands
   ended_event : (p q : ℕ) (r : Outcome) (e : SectionEvent) → Proper e → Stands s p q (written_event e) → Ended s p r → ⊥
   ended_event p q r e h t d =
-      ⊎_elim
-      (λ x. omega (arith, x.0, stands_inside t (event_long e)))
-      (λ x. cc (x.2, event_reads e s p q h t))
-      d
+      let inside = stands_inside t (event_long e) in
+      let read = event_reads e s p q h t in
+      grind arith
 
   -- the same events are read up to where reading ends
   events_one :
@@ -313,40 +271,34 @@ module _ (s : List ℕ) where
       → Stands s p u (flat_map written_event ds) → AllByRecursion Proper ds → Ended s u t
       → (r ≡ t) × (es ≡ ds)
   events_one [] [] p q u r t a i x b j y =
-      let same : q ≡ u = a.after ∙ sym b.after in
-      (ended_one u r t (subst (λ z. Ended s z r) same x) y, refl)
+      let same : q ≡ u = omega arith in
+      (ended_one u r t (rw same at x) y, refl)
   events_one [] (d ∷ ds) p q u r t a i x b j y =
-      let same : q ≡ p = a.after ∙ add-zero p in
-      absurd (ended_event p _ r d j.0 (stands_front (written_event d) (flat_map written_event ds) b) (subst (λ z. Ended s z r) same x))
+      let same : q ≡ p = omega arith in
+      absurd (ended_event p _ r d j.0 (stands_front _ _ b) (rw same at x))
   events_one (e ∷ es) [] p q u r t a i x b j y =
-      let same : u ≡ p = b.after ∙ add-zero p in
-      absurd (ended_event p _ t e i.0 (stands_front (written_event e) (flat_map written_event es) a) (subst (λ z. Ended s z t) same y))
+      let same : u ≡ p = omega arith in
+      absurd (ended_event p _ t e i.0 (stands_front _ _ a) (rw same at y))
   events_one (e ∷ es) (d ∷ ds) p q u r t a i x b j y =
-      let m = event_reads e s p _ i.0 (stands_front (written_event e) (flat_map written_event es) a) in
-      let n = event_reads d s p _ j.0 (stands_front (written_event d) (flat_map written_event ds) b) in
-      let same : ◌≡◌ {A = SectionEvent × ℕ} (e, p + length (written_event e)) (d, p + length (written_event d)) = cc in
-      let rest =
-      events_one es ds (p + length (written_event e)) q u r t
-      (stands_back (written_event e) (flat_map written_event es) a) i.1 x
-      (subst (λ z. Stands s z u (flat_map written_event ds)) (sym (ap (λ z. z.1) same)) (stands_back (written_event d) (flat_map written_event ds) b)) j.1 y in
-      (rest.0, λ k. (same k).0 ∷ rest.1 k)
+      let m = event_reads e s p _ i.0 (stands_front _ _ a) in
+      let n = event_reads d s p _ j.0 (stands_front _ _ b) in
+      let same : ◌≡◌ {A = SectionEvent × ℕ} (d, p + length (written_event d)) (e, p + length (written_event e)) = cc in
+      let first : d ≡ e = λ k. (same k).0 in
+      let rest = events_one es ds _ q u r t (stands_back _ _ a) i.1 x (stands_back (written_event e) _ (rw first at b)) j.1 y in
+      (rest.0, cc (first, rest.1))
 
   pub course_one : (r t : Outcome) (c d : Option ℕ) (es ds : List SectionEvent) → Course s r c es → Course s t d ds → (r ≡ t) × (c ≡ d) × (es ≡ ds)
   course_one r t c d es ds a b =
       ⊎_elim
-      (λ x.
-      ⊎_elim
-      (λ y. (cc, cc, cc))
-      (λ y. absurd (cc (x.opened, y.sofar.opened)))
-      b)
+      (λ x. ⊎_elim (λ y. (cc, cc, cc)) (λ y. absurd (cc (x.opened, y.sofar.opened))) b)
       (λ x.
       ⊎_elim
       (λ y. absurd (cc (y.opened, x.sofar.opened)))
       (λ y.
-      let same : ◌≡◌ {A = ℕ × ℕ} (x.n, x.q) (y.n, y.q) = cc (x.sofar.opened, y.sofar.opened) in
-      let rest =
-      events_one es ds x.q x.p y.p r t x.sofar.stands x.sofar.proper x.ended
-      (subst (λ z. Stands s z y.p (flat_map written_event ds)) (sym (ap (λ z. z.1) same)) y.sofar.stands) y.sofar.proper y.ended in
-      (rest.0, x.counts ∙ ap (λ z. Some z.0) same ∙ sym y.counts, rest.1))
+      let same : ◌≡◌ {A = ℕ × ℕ} (y.n, y.q) (x.n, x.q) = cc (x.sofar.opened, y.sofar.opened) in
+      let count : y.n ≡ x.n = λ k. (same k).0 in
+      let place : y.q ≡ x.q = λ k. (same k).1 in
+      let rest = events_one es ds x.q x.p y.p r t x.sofar.stands x.sofar.proper x.ended (rw place at y.sofar.stands) y.sofar.proper y.ended in
+      (rest.0, cc (x.counts, y.counts, count), rest.1))
       b)
       a
