@@ -11,6 +11,9 @@ pub struct PerLine<T> {
 }
 
 impl<T> PerLine<T> {
+    ghost use Rattle.section.specs.PerLines.{on, with_on};
+    ghost use Rattle.section.specs.contracts.per_line.PerLine.{the_row};
+
     // One for each line, as `of` makes it.
     pub(crate) fn each<F: Fn(Direction) -> T>(of: F) -> PerLine<T>
         requires { F.IsAlwaysCallable of }
@@ -21,9 +24,6 @@ impl<T> PerLine<T> {
             down: of(Direction::Down),
         }
     }
-
-    ghost use Rattle.section.specs.PerLines.{on, with_on};
-    ghost use Rattle.section.specs.contracts.per_line.PerLine.{the_row};
 
     pub fn on(&self, line: Direction) -> &T
         ensures { result.now ≡ on line self.now }

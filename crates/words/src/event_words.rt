@@ -5,7 +5,8 @@ ghost use Rattle.words.specs.Words.{event_words};
 use events::event::Event;
 use std::fmt;
 
-// Its kind, and then each field after its name.
+// Its kind, and then each field after its name. This is no `Display` of `Event` itself, whose crate all others stand on: only
+// the listing waits for the proof of these words.
 #[derive(Clone, Copy)]
 pub struct EventWords(pub Event);
 
