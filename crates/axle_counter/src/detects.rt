@@ -3,7 +3,7 @@ ghost use Rattle.std.specs.Prelude.{◌≡◌};
 ghost use Rattle.axle_counter.specs.AxleCounters.{totals_of, counter_meaning};
 ghost use Rattle.axle_counter.specs.Totals.{no_totals, totals_in, totals_out, totals_failing};
 ghost use Rattle.detector.specs.Meaning.{fresh, counted_in, counted_out, failing, restored, rolled};
-ghost use Rattle.std.proofs.Common.{rules, arith};
+ghost use Rattle.std.proofs.Common.{rules};
 
 use super::{AxleCounter, ROUND};
 use detector::{Detector, LIMIT, Reading};

@@ -29,7 +29,8 @@ pub enum Bell {
 }
 
 impl Bell {
-    // Moves as the event says. An event that is none of the bell's leaves it.
+    // Moves as the event says. An event that is none of the bell's leaves it. (`Judged`, in `line`, says two such clauses at once
+    // of lines; over every state and answer it would take more arguments than they have parts.)
     pub fn hear(&mut self, event: Event) -> Result<(), Refusal>
         ensures answer { result ≡ checked (bell_needs self.old event) }
         ensures bell { self.new ≡ unless_refused (checked (bell_needs self.old event)) (bell_after self.old event) self.old }

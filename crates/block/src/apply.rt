@@ -15,7 +15,9 @@ use section::instruments::Instruments;
 
 impl<D: Detector> Bench<D> {
     // The event on a section: the bell and the lines answer, the detectors are told, and the signals follow what they read.
+    // (Two clauses, as at the bell.)
     fn work(&mut self, at: usize, event: Event) -> Answer
+        // See `Bench::has`: no type of a number says that it is a section's.
         requires { at < length self.old }
         ensures answer { result ≡ given_that (checked (state_needs (section_at at self.old) event)) (outcome (section_at at self.old).section event) }
         ensures bench { self.new ≡ unless_refused (checked (state_needs (section_at at self.old) event)) (slice_set self.old at (state_after (section_at at self.old) event)) self.old }

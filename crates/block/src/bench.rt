@@ -33,7 +33,7 @@ impl<D: Detector> Model for Bench<D> {
     ghost invariant = { λ b. (vec_len b.sections ≤ 8) × All Consistent b.sections.items };
 }
 
-// The numbers of a section's detectors in the bank.
+// The numbers of a section's detectors in the bank: this is where the two lines differ.
 fn detectors_of(at: usize) -> PerLine<usize>
     requires { at < 8 }
     ensures { result ≡ record { up = 2 * at; down = 2 * at + 1 } }
@@ -114,6 +114,7 @@ impl<D: Detector> Bench<D> {
     {
         let bank = &mut self.bank;
         let detectors = detectors_of(at);
+        // Two calls, shorter than a loop over two lines with its invariant.
         tell(bank, detectors.up, actions.up);
         tell(bank, detectors.down, actions.down);
     }

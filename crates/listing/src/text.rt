@@ -15,10 +15,7 @@ use std::alloc::{AllocError, Global};
 fn ending_after(outcome: Result<(), RunFault>, count: usize) -> Option<Result<usize, Stop>>
     ensures { result ≡ ending_of outcome count }
 {
-    match outcome {
-        Ok(()) => Some(Ok(count)),
-        Err(fault) => fault.stop().map(Err),
-    }
+    outcome.map_or_else(|fault| fault.stop().map(Err), |()| Some(Ok(count)))
 }
 
 // A line for each event.

@@ -98,7 +98,8 @@ impl Instruments {
         outcome
     }
 
-    // What the event does on the lines, and to what their detectors are told. The bell has taken its part already.
+    // What the event does on the lines, and to what their detectors are told. The bell has taken its part already. (Two clauses,
+    // here and in `answer`, as at the bell.)
     fn work(&mut self, event: Event, readings: Readings) -> Result<Worked, Refusal>
         ensures answer { result ≡ given_that (checked (line_needs self.old readings event)) (done_by self.old event) }
         ensures section { self.new ≡ unless_refused (checked (line_needs self.old readings event)) (lines_after self.old event) self.old }
@@ -191,6 +192,7 @@ impl Instruments {
     pub fn settle(&mut self, readings: Readings)
         ensures { self.new ≡ section_settled readings self.old }
     {
+        // Two calls, shorter than a loop over two lines with its invariant.
         self.lines.up.settle(readings.up);
         self.lines.down.settle(readings.down);
     }

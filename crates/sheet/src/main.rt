@@ -2,13 +2,14 @@
 #![tactic(auto)]
 
 use anyhow::anyhow;
+use cursor::LONGEST;
 use listing::text::listing;
 use std::env;
 use std::io::Read;
 use std::process::ExitCode;
 
-// The longest sheet has 65,536 bytes: one more tells a sheet that is too long.
-const MOST: u64 = 65_537;
+// One byte more than the longest sheet has, which tells a sheet that is too long.
+const MOST: u64 = LONGEST as u64 + 1;
 
 const HELP: &str = "\
 usage: sheet < SHEET

@@ -3,7 +3,7 @@ ghost use Rattle.std.specs.Prelude.{◌≡◌};
 ghost use Rattle.detector.specs.Meaning.{fresh, counted_in, counted_out, failing, restored, rolled};
 ghost use Rattle.track_row.specs.TrackRows.{row_meaning};
 ghost use Rattle.track_row.specs.Tracks.{no_axles, tracks_in, taken, tracks_rolled};
-ghost use Rattle.std.proofs.Common.{rules, arith};
+ghost use Rattle.std.proofs.Common.{rules};
 
 use super::{TRACKS, TrackRow};
 use detector::{Detector, LIMIT, Reading};

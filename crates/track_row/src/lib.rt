@@ -27,6 +27,8 @@ impl TrackRow {
         self.tracks.iter().sum()
     }
 
+    // Each of the three calls below says that `failed` stays: a struct round the array alone would say it, for these three.
+
     // Puts axles on one track.
     fn put_on(&mut self, at: usize, axles: u16)
         requires within { at < track_count }

@@ -1,12 +1,11 @@
 // What the bell codes do to a line.
 ghost use Rattle.std.specs.Prelude.{◌≡◌, false};
-ghost use Rattle.answer.specs.Answers.{checked, unless_refused};
 ghost use Rattle.events.specs.Tests.{turn_is};
-ghost use Rattle.line.specs.Changes.{Judged, row_after};
+ghost use Rattle.line.specs.Changes.{Judged};
 ghost use Rattle.line.specs.Codes.{acknowledge_needs, acknowledged_with, acknowledging_makes, code_needs, consent_makes, effective_when_sent, send_needs, sending_makes};
 
 use super::Line;
-use crate::row::{Needle, Permission, Permit};
+use crate::row::Permission;
 use crate::sending::Sending;
 use answer::{Refusal, need};
 use detector::Reading;

@@ -5,7 +5,7 @@ ghost use Rattle.line.specs.Changes.{Judged, action_of, home_moved, reset_called
 ghost use Rattle.line.specs.Lines.{entering_answer, entering_makes, home_control_needs, leaving_answer, leaving_makes, reset_needs, resume_needs, stop_control_makes, stop_control_needs, trolley_end_needs, trolley_start_needs};
 
 use super::Line;
-use crate::row::{Needle, Permission, Permit, Row, Signal};
+use crate::row::{Permission, Row, Signal};
 use answer::{Outcome, Refusal, need};
 use detector::{Action, Reading};
 use events::field::{Place, Position, Station};
@@ -127,7 +127,8 @@ impl Line {
         Ok(())
     }
 
-    // A station calls for a reset of the detector. The other station's call completes it, and then the detector is to be told.
+    // A station calls for a reset of the detector. The other station's call completes it, and then the detector is to be told:
+    // so the answer holds a value, and two clauses say what `Judged` says of the others.
     pub fn call_reset(
         &mut self,
         station: Station,
