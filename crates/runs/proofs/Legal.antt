@@ -52,12 +52,13 @@ signals_before cancelled g = not (is_off g.stop) && both_normal g
 signals_before stop_reversed g = not g.suspended
 signals_before (passed k) g = is_off g.stop
 signals_before (passed_at_on k) g = not (is_off g.stop)
-signals_before (resume_called a) g = g.suspended
+signals_before (resume_called a) g = g.suspended && both_normal g
 signals_before c g = true
 
 abbrev pub detector_before : Change → Meaning → Bool
 detector_before train_out m = reads_clear m
 detector_before stop_reversed m = reads_clear m
+detector_before (resume_called a) m = reads_clear m
 detector_before c m = true
 
 abbrev pub Legal : Change → Row → Meaning → Type 0
