@@ -73,3 +73,14 @@ pub fn need(holds: bool, refusal: Refusal) -> Result<(), Refusal>
 {
     if holds { Ok(()) } else { Err(refusal) }
 }
+
+// Needs are looked at in their order, and the first that does not hold is the refusal. Where they need not all be worked out,
+// one `need` after another says the same.
+pub fn first_failing(needs: &[(bool, Refusal)]) -> Result<(), Refusal>
+    ensures { result ≡ checked needs.now }
+{
+    for (holds, refusal) in needs {
+        need(*holds, *refusal)?;
+    }
+    Ok(())
+}
