@@ -37,7 +37,9 @@ impl<'a> Cursor<'a> {
         Ok(Cursor { sheet, at: 0 })
     }
 
-    // The next number, byte by byte.
+    // The next number, byte by byte. (Made in place, as `value` and `number_in` are: as calls of their own, they make the listing
+    // of a long sheet a quarter to a half slower.)
+    #[inline(always)]
     pub fn number(&mut self) -> Result<u16, ReadFault>
         ensures { Moves number_at self.old self.new result }
     {
@@ -48,6 +50,7 @@ impl<'a> Cursor<'a> {
 
     // The value that the next number stands for.
     #[tactic(auto, unfolding(format::specs::Layouts::field_at))]
+    #[inline(always)]
     fn value<T: Numbered>(&mut self) -> Result<T, ReadFault>
         ensures { Goes (field_at T.Numbered.field) self.old self.new result }
     {

@@ -5,6 +5,7 @@ ghost use Rattle.format.specs.Numbers.{number_at};
 use format::fault::{ReadFault, Reason};
 
 // The number's value with the place after it. Each byte but the last has 128 added to its seven bits.
+#[inline(always)]
 pub(crate) fn number_in(sheet: &[u8], start: usize) -> Result<(u16, usize), ReadFault>
     ensures { result ≡ number_at sheet.now start }
 {
