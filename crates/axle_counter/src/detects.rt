@@ -66,6 +66,10 @@ impl Detector for AxleCounter {
     }
 
     fn read(&self) -> Reading {
-        Reading::of(self.axles(), self.failed)
+        // One that has failed need not be reckoned out.
+        if self.failed {
+            return Reading::Failed;
+        }
+        Reading::of(self.axles(), false)
     }
 }

@@ -67,6 +67,10 @@ impl Detector for TrackRow {
     }
 
     fn read(&self) -> Reading {
-        Reading::of(self.axles(), self.failed)
+        // The tracks of one that has failed need not be added up.
+        if self.failed {
+            return Reading::Failed;
+        }
+        Reading::of(self.axles(), false)
     }
 }
