@@ -18,6 +18,12 @@ interleaved_replicate (suc n) a =
     let next : 2 * suc n ≡ suc (suc (2 * n)) = omega arith in
     rw next (ap (λ l. a ∷ a ∷ l) (interleaved_replicate n a))
 
+half_next : (n : ℕ) → suc (suc n) / 2 ≡ suc (n / 2)
+half_next n = omega arith
+
+parity_next : (n : ℕ) → suc (suc n) % 2 ≡ n % 2
+parity_next n = omega arith
+
 pub acted_at_interleaved : (at : ℕ) (action : Action) (xs ys : List Meaning) → length xs ≡ length ys → acted_at at action (interleaved xs ys) ≡ interleaved (first_acted at action xs) (second_acted at action ys)
 acted_at_interleaved at action [] [] e = grind (arith, nat_tests)
 acted_at_interleaved at action [] (y ∷ ys) e = absurd (omega arith)
@@ -34,7 +40,5 @@ read_at_interleaved at (x ∷ xs) [] e = absurd (omega arith)
 read_at_interleaved zero (x ∷ xs) (y ∷ ys) e = grind (arith, nat_tests)
 read_at_interleaved (suc zero) (x ∷ xs) (y ∷ ys) e = grind (arith, nat_tests)
 read_at_interleaved (suc (suc at)) (x ∷ xs) (y ∷ ys) e =
-    let half : suc (suc at) / 2 ≡ suc (at / 2) = omega arith in
-    let parity : suc (suc at) % 2 ≡ at % 2 = omega arith in
     let rest = read_at_interleaved at xs ys (omega arith) in
-    grind (arith, nat_tests)
+    grind (arith, nat_tests, half_next at, parity_next at)

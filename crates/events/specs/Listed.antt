@@ -1,5 +1,5 @@
 -- What a listed field gives: each value has one number, and a number stands for no other value. Assumes nothing.
-use Rattle.std.specs.Prelude.{◌≡◌, ℕ, List, [], ◌∷◌, Some}
+use Rattle.std.specs.Prelude.{◌≡◌, ◌≢◌, ℕ, List, [], ◌∷◌, Some, None}
 use Rattle.std.proofs.Common.{arith}
 use Rattle.std.proofs.lemmas.Bool.Decides.{nat_tests}
 use Rattle.events.specs.Fields.{first_numbered, every_code, code_number, every_consent, consent_number, every_direction, direction_number, every_kind, kind_number, every_place, place_number, every_position, position_number, every_station, station_number, every_turn, turn_number}
@@ -12,8 +12,11 @@ use Rattle.events.specs.declared.field.Position.{Position}
 use Rattle.events.specs.declared.field.Station.{Station}
 use Rattle.events.specs.declared.field.Turn.{Turn}
 
+nothing : {T : Type 0} {x : T} → None ≢ Some x
+nothing e = cc
+
 pub listed_back : {T : Type 0} (number : T → ℕ) (xs : List T) (n : ℕ) (x : T) → first_numbered number xs n ≡ Some x → n ≡ number x
-listed_back number [] n x e = cc
+listed_back number [] n x e = absurd (nothing e)
 listed_back number (y ∷ ys) n x e = let rest = listed_back number ys n x in grind (arith, nat_tests)
 
 -- Each value of a listed field is what its number stands for.

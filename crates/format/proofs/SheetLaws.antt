@@ -199,11 +199,14 @@ module _ (s : List ℕ) where
     number_fault : (f : ReadFault) → number_at s o ≡ Err f → 0 < length ns + length (drop o s) → Course s (Err (Read f)) (Some n) es
     number_fault f e i = stopped f i (number_stops s _ o ns f u.begun begun e)
 
-    value_fault : (m : ℕ) → m ≤ 65535 → Begins (drop o s) m → (GoesOn ns m → ⊥) → Course s (Err (Read (fault Value o))) (Some n) es
-    value_fault m fits b stuck =
+    value_fault : (m r : ℕ) → number_at s o ≡ Ok (m, r) → m ≤ 65535 → (GoesOn ns m → ⊥) → o < length s → Course s (Err (Read (fault Value o))) (Some n) es
+    value_fault m r e fits stuck l = stopped (fault Value o) (omega (arith, length-drop o s)) (value_stops s _ o r ns m fits u.begun stuck begun e)
+
+    -- the same at what begins there
+    begun_fault : (m : ℕ) → m ≤ 65535 → Begins (drop o s) m → (GoesOn ns m → ⊥) → Course s (Err (Read (fault Value o))) (Some n) es
+    begun_fault m fits b stuck =
         let at = begins_stands b in
-        let inside = stands_inside at (written_long m) in
-        stopped (fault Value o) (omega (arith, length-drop o s)) (value_stops s _ o _ ns m fits u.begun stuck begun (number_reads s o _ m fits at))
+        value_fault m _ (number_reads s o _ m fits at) fits stuck (stands_inside at (written_long m))
 
 malformed_some : {bs : List ℕ} {p o : ℕ} → Malformed bs p o → 0 < length bs
 malformed_some m = grind (arith, length-append, written_long)
@@ -224,7 +227,7 @@ module _ (s : List ℕ) where
       wanted_fault t.place c es t.numbers _ t.short t.wanted (inr (omega (arith, malformed_some t.malformed))) (malformed_stops s t.place o within t.malformed)
   stops_course Value o c es t =
       ⊎_elim
-      (λ v. rw v.counted (value_fault s o v.count es v.numbers v.short v.read v.number v.fits v.begins v.stuck))
+      (λ v. rw v.counted (begun_fault s o v.count es v.numbers v.short v.read v.number v.fits v.begins v.stuck))
       (λ l. rw l.end (inl (record { why = Read (fault Value 65536); answer = refl; opened = rw (lt-leb (length s) 65536 l.long); nothing = l.nothing })))
       t
 

@@ -3,11 +3,12 @@ use Rattle.std.proofs.Common.{◌≡◌, ℕ, ◌+◌, ◌-◌, ◌<◌, true, f
 use Rattle.std.proofs.lemmas.Bool.Decides.{Decides-at, nat_tests}
 use Rattle.detector.specs.Meaning.{Meaning, fresh, reading_of, reads_clear}
 use Rattle.detector.specs.declared.Reading.{Reading}
+use Rattle.events.specs.Tests.{is_reversed}
 use Rattle.line.specs.Changes.{Change, action_of, half_called, row_after, settled, unchanged, reset_called, resume_called}
 use Rattle.line.specs.Records.{end_is, fresh_row, is_blocked, is_off, needle_is, permit_is, running_trolley, unused_train, used_train}
 use Rattle.line.specs.declared.row.Calls.{Calls}
 use Rattle.line.specs.declared.row.End.TheVariants.{NotEnded}
-use Rattle.line.specs.declared.row.Needle.TheVariants.{Closed}
+use Rattle.line.specs.declared.row.Needle.TheVariants.{Closed, Clear}
 use Rattle.line.specs.declared.row.Permission.{Permission}
 use Rattle.line.specs.declared.row.Permit.TheVariants.{Nothing}
 use Rattle.line.specs.declared.row.Row.{Row}
@@ -34,7 +35,9 @@ pub record SoundPermission (g : Permission) : Type 0 where
   pub ended_is_used : end_is NotEnded g ≡ false → g.used ≡ true
 
 pub record SoundSignals (r : Row) : Type 0 where
+  pub off_is_clear : is_off r.signals.stop ≡ true → needle_is Clear r.permission ≡ true
   pub off_is_unused : is_off r.signals.stop ≡ true → unused_train r.permission ≡ true
+  pub off_is_reversed : is_off r.signals.stop ≡ true → is_reversed r.signals.stop_control ≡ true
   pub off_is_worked : is_off r.signals.stop ≡ true → r.signals.suspended ≡ false
 
 pub record Sound (r : Row) (m : Meaning) : Type 0 where

@@ -22,7 +22,7 @@ use Rattle.runs.specs.Laws.{Place, clear_after, last_send, off_before, row_at}
 use Rattle.runs.proofs.Legal.{Holds, legal}
 use Rattle.runs.proofs.Lines.{Between, Kept, kept_after, kept_fresh, kept_still}
 use Rattle.runs.proofs.Observed.{Says}
-use Rattle.runs.proofs.Steps.{Heard, says_accepted, says_nothing_elsewhere, says_nothing_refused}
+use Rattle.runs.proofs.Steps.{Heard, refused_says_nothing, says_accepted, says_nothing_elsewhere}
 
 -- one line of the section i
 abbrev pub line_of : ℕ → Direction → Place
@@ -90,4 +90,4 @@ module _ (i : ℕ) (x : Step) (h : History) (became : section_at i x.after ≡ s
 pub safe_refused : (i : ℕ) (r : Refusal) (e : SectionEvent) (b : BenchState) (h : History) → Safe i (section_at i b) h
     → Safe i (section_at i b) (h ▸ record { event = e; before = b; answer = Err r; after = b })
 safe_refused i r e b h safe =
-    safe_still i (record { event = e; before = b; answer = Err r; after = b }) h refl (grind (arith, nat_tests)) (λ l. says_nothing_refused (line_of i l) r e b h) safe
+    safe_still i (record { event = e; before = b; answer = Err r; after = b }) h refl (grind (arith, nat_tests)) (λ l. refused_says_nothing (line_of i l) r e b h) safe

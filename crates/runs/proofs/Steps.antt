@@ -26,17 +26,22 @@ use Rattle.section.specs.Sections.{change_on, on_line, on_or_beside, outcome, pe
 use Rattle.section.specs.declared.section.Section.{Section}
 use Rattle.runs.specs.Benches.{BenchState}
 use Rattle.runs.specs.Histories.{History, Step}
-use Rattle.runs.specs.Laws.{Place, in_section, last_send}
+use Rattle.runs.specs.Laws.{Place, answered, in_section, last_send}
 use Rattle.runs.proofs.Observed.{Says, words}
 
 pub says_nothing_elsewhere : (p : Place) (x : Step) (h : History) → in_section p x ≡ false → Says unchanged p x h
 unfolding words
 says_nothing_elsewhere p x h away = grind (arith, nat_tests)
 
-pub says_nothing_refused : (p : Place) (r : Refusal) (e : SectionEvent) (b : BenchState) (h : History)
-    → Says unchanged p (record { event = e; before = b; answer = Err r; after = b }) h
+pub says_nothing_refused : (p : Place) (x : Step) (h : History) → answered 0 x ≡ false → answered 90 x ≡ false → answered 91 x ≡ false → Says unchanged p x h
 unfolding words
-says_nothing_refused p r e b h = grind (arith, nat_tests)
+says_nothing_refused p x h a b c = grind (arith, nat_tests)
+
+-- the same of the step that the rules lay down for a refused event
+pub refused_says_nothing : (p : Place) (r : Refusal) (e : SectionEvent) (b : BenchState) (h : History)
+    → Says unchanged p (record { event = e; before = b; answer = Err r; after = b }) h
+refused_says_nothing p r e b h =
+    says_nothing_refused p (record { event = e; before = b; answer = Err r; after = b }) h (grind (arith, nat_tests)) (grind (arith, nat_tests)) (grind (arith, nat_tests))
 
 -- a code that is pending is the last that was sent
 abbrev pub Heard : Bell → List ℕ → Type 0
